@@ -1,0 +1,107 @@
+-- Calls, returns and transfers have the right outcome. Assumes nothing.
+use mathlib.Core.Path.{_≡_, refl, sym, _∙_, subst}
+use mathlib.Core.Bool.{true}
+use mathlib.Core.List.{List}
+use Prim.Native.Nat.{ℕ, _+_, _-_, _≤_, _<_}
+use native.Mathlib.Omega.{arith}
+use lib.ListN.{length, getD, set, replicate, length-set, getD-replicate}
+use lib.Dec.{ltb, leb, eqb}
+use borrow.Author.Tests.{ltb-true, ltb-false, leb-true, eqb-true}
+use Rattle.mcode.specs.declared.Position.{Position}
+use Rattle.mcode.specs.declared.Flow.the-variants.{To, Fault as NoFlow}
+use Rattle.mcode.specs.Decode.{Action, Return, Transfer}
+use Rattle.mcode.specs.Word.{pick, and}
+use Rattle.mcode.specs.Image.{margin, moduleOf, basesOf, procCount, entryOf, paramsOf, resultsOf}
+use Rattle.mcode.specs.Depths.{depths, calls, callsIn, marksOf}
+use Rattle.mcode.specs.Machine.{position, machine, at, framed, top, second, take2}
+use Rattle.mcode.specs.Step.{storesTo, wordIn, call, unitBased, standing, backTo, returned, processAt, isProcess, savedStore, restoredMachine, switched, transferred}
+use Rattle.mcode.proofs.Tests.{and-both}
+use Rattle.mcode.proofs.Standing.{At, at-of, Good, entry-at, met}
+use Rattle.mcode.proofs.Rows.{takenBy, leftBy}
+use Rattle.mcode.proofs.Zeros.{zeros-restored, length-saved-store}
+use Rattle.mcode.proofs.Shapes.{Here, P, R, D, M, Marks, Asks, Stack, take2-fine, framed-fine, same-stack}
+use Rattle.mcode.proofs.Right.{Right, on, off, other, to, to-all, by-test, in-store}
+
+module _ (H : Here) (n : Position) where
+  set3 : (s a b c : ℕ) → length (set (set (set (H .x .store) s a) (s + 1) b) (s + 2) c) ≡ length (H .x .store)
+  set3 s a b c = length-set (set (set (H .x .store) s a) (s + 1) b) (s + 2) c ∙ length-set (set (H .x .store) s a) (s + 1) b ∙ length-set (H .x .store) s a
+
+  -- a call of procedure i of module k, by the action a, from this depth and stack
+  pub call-right : (a : Action) (k i link mk : ℕ) (q : Position) (d : ℕ) (stack : List ℕ) → At (P H) (H .lent .map) k (entryOf (H .lent .image) (moduleOf (P H) k) i) d
+      → Stack H (D H - takenBy a) d stack → D H - takenBy a + leftBy a ≡ d → Right H n a (call (H .lent) k i link mk (machine (at q d (R H)) stack) (H .x))
+  unfolding call
+  call-right a k i link mk q d stack e h z =
+      let entry = position (entryOf (H .lent .image) (moduleOf (P H) k) i) in
+      by-test H n (ltb (R H .h .0) (R H .s .0 + 4)) (λ t. off tt) (λ t.
+      to-all H n (machine (at entry d (framed k (R H .s .0) (R H .s .0 + 4) (R H))) stack) _ _
+      (framed-fine H (takenBy a) (leftBy a) k entry d (R H .s .0) (R H .s .0 + 4) stack h e (ltb-false _ _ t) z) (set3 (R H .s .0) link (R H .l .0) mk) refl)
+
+  back-right : (k t : ℕ) → R H .l .0 ≤ R H .h .0 → Right H n Return (backTo (H .lent) k t (H .x))
+  unfolding backTo
+  back-right k t h =
+      by-test H n (standing (H .lent) k t (D H)) (λ s.
+      to H n (machine (at (position t) (D H) (framed k (wordIn (H .x) (R H .l .0 + 1)) (R H .l .0) (R H))) (M H .stack))
+      (framed-fine H 0 0 k (position t) (D H) (wordIn (H .x) (R H .l .0 + 1)) (R H .l .0) (M H .stack) (same-stack H) (at-of (P H) (H .lent .map) k t (D H) s) h (omega arith)))
+      (λ s. off tt)
+
+  pub return-right : Right H n Return (returned (H .lent) (H .x))
+  unfolding returned
+  return-right =
+      let t = wordIn (H .x) (R H .l .0 + 2) in
+      by-test H n (ltb (R H .h .0) (R H .l .0)) (λ e. off tt) (λ e.
+      by-test H n (eqb t 0x7fff) (λ f. off tt) (λ f.
+      by-test H n (ltb t 0x8000) (λ g. back-right (R H .unit) t (ltb-false _ _ e)) (λ g. back-right (unitBased (P H) (wordIn (H .x) (R H .l .0))) (t - 0x8000) (ltb-false _ _ e))))
+
+  switch-right : (b q : ℕ) → Right H n (Transfer b) (switched (H .lent) b n (second (M H)) q (H .x))
+  unfolding switched isProcess restoredMachine
+  switch-right b q = by-test H n (isProcess (H .lent) (length (H .x .store)) q (processAt (H .x .store) q)) (λ t. switches t) (λ t. off tt)
+    where
+      switches : isProcess (H .lent) (length (H .x .store)) q (processAt (H .x .store) q) ≡ true
+          → Right H n (Transfer b) (storesTo (H .x) (restoredMachine (H .lent) b q (H .x .store) (processAt (H .x .store) q) (R H)) (savedStore (getD (basesOf (P H)) (R H .unit) 0) n (second (M H)) (H .x) (D H - 2)))
+      switches t =
+          let r = processAt (H .x .store) q in
+          let w = length (H .x .store) in
+          let (a₁, b₁) = and-both (leb (q + 8) w) _ t in
+          let (a₂, b₂) = and-both (and (leb margin (r .v)) (leb (r .v) w)) _ b₁ in
+          let (a₃, b₃) = and-both (and (leb 1 (r .s)) (leb (r .s) w)) _ b₂ in
+          let (a₄, b₄) = and-both (and (leb (r .k) 16) (ltb (r .k) (r .s))) _ b₃ in
+          let (a₅, b₅) = and-both (leb (r .s - 1 - r .k) (r .v - margin)) _ b₄ in
+          let (c₁, c₂) = and-both (leb margin (r .v)) (leb (r .v) w) a₂ in
+          let h₁ : q + 8 ≤ w = leb-true (q + 8) w a₁ in
+          let h₂ : 24 ≤ r .v = leb-true 24 (r .v) c₁ in
+          let h₃ : r .v ≤ w = leb-true (r .v) w c₂ in
+          let g : Good (P H) (H .lent .map) (H .w) (restoredMachine (H .lent) b q (H .x .store) r (R H)) = record {
+            at = at-of (P H) (H .lent .map) (unitBased (P H) (r .g)) (r .pc) (r .k) b₅;
+            low = leb-true (r .s - 1 - r .k) (r .v - margin) a₅;
+            high = omega (arith, H .kept .sized);
+            proc = omega (arith, H .kept .sized);
+            zeros = zeros-restored (H .x .store) (r .k) (r .s - 1 - r .k) (r .k) (replicate 16 0) (omega arith) (λ i l h. getD-replicate 16 i 0 0 l);
+          } in
+          on (record { good = g; sized = length-saved-store (getD (basesOf (P H)) (R H .unit) 0) n (second (M H)) (H .x) (D H - 2) ∙ H .kept .sized; outs = H .kept .outs }) (other refl (g .at .few))
+
+  pub transfer-right : (b : ℕ) → D H - 2 + 0 ≤ 16 → Marks H (n .0) (D H - 2 + 0) → Right H n (Transfer b) (transferred (H .lent) b n (H .x))
+  unfolding transferred
+  transfer-right b h f =
+      let q = wordIn (H .x) (top (M H)) in
+      in-store H n (top (M H)) (in-store H n (second (M H)) (by-test H n (eqb q (R H .p .0))
+      (λ t. to-all H n (take2 n (M H)) (set (H .x .store) (second (M H)) (R H .p .0)) (H .x .outputs) (take2-fine H n h f) (length-set (H .x .store) (second (M H)) (R H .p .0)) refl)
+      (λ t. switch-right b q)))
+
+  -- a call of procedure i of module k that fits
+  pub callee : (k : ℕ) → k < P H .count → (i q : ℕ) {e : ℕ} (d : ℕ) → e ≤ 16 → Asks H (calls (H .lent .image) (moduleOf (P H) k) i q e) → e ≡ d
+      → At (P H) (H .lent .map) k (entryOf (H .lent .image) (moduleOf (P H) k) i) d
+  unfolding calls
+  callee k l i q {e} d h f z =
+      let m = moduleOf (P H) k in
+      let A = depths (H .lent .image) (P H) (moduleOf (P H) (R H .unit)) in
+      let marks = marksOf (H .lent .map) (moduleOf (P H) (R H .unit)) in
+      let (t, g) = met A marks (ltb i (procCount m)) (pick (eqb e (paramsOf (H .lent .image) m i)) (To q (resultsOf (H .lent .image) m i)) NoFlow) f in
+      let (s, j) = met A marks (eqb e (paramsOf (H .lent .image) m i)) (To q (resultsOf (H .lent .image) m i)) g in
+      entry-at (H .lent .image) (P H) (H .lent .map) (H .fit) k i l (ltb-true _ _ t) d (subst (λ (y : ℕ). y ≤ 16) z h) (sym z ∙ eqb-true _ _ s)
+
+  -- a call into another module that fits
+  pub in-other : (k i q e : ℕ) → Asks H (callsIn (H .lent .image) (P H) k i q e) → (k < P H .count) × Asks H (calls (H .lent .image) (moduleOf (P H) k) i q e)
+  unfolding callsIn
+  in-other k i q e f =
+      let (t, g) = met (depths (H .lent .image) (P H) (moduleOf (P H) (R H .unit))) (marksOf (H .lent .map) (moduleOf (P H) (R H .unit))) (ltb k (P H .count)) (calls (H .lent .image) (moduleOf (P H) k) i q e) f in
+      (ltb-true _ _ t, g)

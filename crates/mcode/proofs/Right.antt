@@ -1,0 +1,85 @@
+-- What is right of a step's outcome: it goes on to a machine that stands, having taken and put what the action does, or it finds a stop
+-- that is not spent. Assumes nothing.
+use mathlib.Core.Path.{_≡_, refl, _∙_}
+use mathlib.Core.Bool.{Bool, true, false}
+use mathlib.Core.List.{List}
+use Prim.Native.Nat.{ℕ, _+_, _-_, _≤_}
+use native.Mathlib.Omega.{arith}
+use lib.ListN.{length, getD, set, length-set}
+use lib.Dec.{ltb}
+use Rattle.mcode.specs.declared.Position.{Position}
+use Rattle.mcode.specs.declared.Machine.{Machine}
+use Rattle.mcode.specs.declared.Stop.{Stop}
+use Rattle.mcode.specs.declared.Value.{Value}
+use Rattle.mcode.specs.Decode.{Action, OrJump, AndJump, Transfer}
+use Rattle.mcode.specs.Word.{pick}
+use Rattle.mcode.specs.Image.{basesOf}
+use Rattle.mcode.specs.Machine.{State, state, Outcome, go, halt, depth, second, take1}
+use Rattle.mcode.specs.Step.{goes, storesTo, inStore, computed, savedStore}
+use Rattle.mcode.specs.Demands.{Left}
+use Rattle.mcode.proofs.Rows.{takenBy, leftBy}
+use Rattle.mcode.proofs.Faults.{Found, Real, is, fault}
+use Rattle.mcode.proofs.Shapes.{Here, P, R, D, M, Marks, Ok, Fine, take1-fine}
+
+module _ (H : Here) (n : Position) where
+  -- what the action did, with y the next state and n the next position
+  pub data Did (y : State) : Action → Type 0 where
+    rows : {a : Action} → Left (D H - takenBy a) (H .x) y → depth (y .machine) ≡ D H - takenBy a + leftBy a → Did y a
+    no-or : {t : Position} → Left (D H - 1) (H .x) y → depth (y .machine) ≡ D H - 1 → Did y (OrJump t)
+    no-and : {t : Position} → Left (D H - 1) (H .x) y → depth (y .machine) ≡ D H - 1 → Did y (AndJump t)
+    other : {b : ℕ} → y .store ≡ savedStore (getD (basesOf (P H)) (R H .unit) 0) n (second (M H)) (H .x) (D H - 2) → depth (y .machine) ≤ 16 → Did y (Transfer b)
+
+  pub data Right (a : Action) : Outcome → Type 0 where
+    on : {y : State} → Ok H y → Did y a → Right a (go y)
+    off : {k : Stop} → Found k → Right a (halt k)
+
+module _ (H : Here) (n : Position) {a : Action} where
+  -- to the machine m, which the row describes; with another store, other outputs
+  pub to-all : (m : Machine) (s o : List ℕ) → Fine H (takenBy a) (leftBy a) m → length s ≡ length (H .x .store) → length o ≡ length (H .x .outputs) → Right H n a (go (state m s o))
+  to-all m s o f p q = on (record { good = f .good; sized = p ∙ H .kept .sized; outs = q ∙ H .kept .outs }) (rows (f .left) (f .deep))
+
+  pub to : (m : Machine) → Fine H (takenBy a) (leftBy a) m → Right H n a (goes (H .x) m)
+  to m f = to-all m (H .x .store) (H .x .outputs) f refl refl
+
+  pub by-test : (t : Bool) {o u : Outcome} → (t ≡ true → Right H n a o) → (t ≡ false → Right H n a u) → Right H n a (pick t o u)
+  by-test true f g = f refl
+  by-test false f g = g refl
+
+  pub to-either : (t : Bool) (m m′ : Machine) → Right H n a (goes (H .x) m) → Right H n a (goes (H .x) m′) → Right H n a (goes (H .x) (pick t m m′))
+  to-either true m m′ f g = f
+  to-either false m m′ f g = g
+
+  pub in-store : (k : ℕ) {o : Outcome} → Right H n a o → Right H n a (inStore (H .x) k o)
+  in-store k f = by-test (ltb k (length (H .x .store))) (λ t. f) (λ t. off tt)
+
+  -- a word is read, or v is written, at k
+  pub reads : (k : ℕ) (m : Machine) → Fine H (takenBy a) (leftBy a) m → Right H n a (inStore (H .x) k (goes (H .x) m))
+  reads k m f = in-store k (to m f)
+
+  pub writes : (k v : ℕ) (m : Machine) → Fine H (takenBy a) (leftBy a) m → Right H n a (inStore (H .x) k (storesTo (H .x) m (set (H .x .store) k v)))
+  writes k v m f = in-store k (to-all m (set (H .x .store) k v) (H .x .outputs) f (length-set (H .x .store) k v) refl)
+
+  pub computes : {v : Value} (m : ℕ → Machine) → Real v → ((u : ℕ) → Fine H (takenBy a) (leftBy a) (m u)) → Right H n a (computed v (λ u. goes (H .x) (m u)))
+  computes m (is {v = u}) f = to (m u) (f u)
+  computes m (fault k) f = off k
+
+-- 036 and 037 that do not jump
+module _ (H : Here) (n : Position) where
+  fallen : D H - 1 + 1 ≤ 16 → Marks H (n .0) (D H - 1 + 1 - 1) → Fine H 1 0 (take1 n (M H))
+  fallen h f = let z : D H - 1 + 1 - 1 ≡ D H - 1 + 0 = omega arith in take1-fine H n (omega arith) (f ∙ z)
+
+  pub falls-or : (t : Position) → D H - 1 + 1 ≤ 16 → Marks H (n .0) (D H - 1 + 1 - 1) → Right H n (OrJump t) (goes (H .x) (take1 n (M H)))
+  falls-or t h f = let g = fallen h f in on (record { good = g .good; sized = H .kept .sized; outs = H .kept .outs }) (no-or (g .left) refl)
+
+  pub falls-and : (t : Position) → D H - 1 + 1 ≤ 16 → Marks H (n .0) (D H - 1 + 1 - 1) → Right H n (AndJump t) (goes (H .x) (take1 n (M H)))
+  falls-and t h f = let g = fallen h f in on (record { good = g .good; sized = H .kept .sized; outs = H .kept .outs }) (no-and (g .left) refl)
+
+-- what is right, of a known outcome
+module _ (H : Here) (n : Position) (a : Action) where
+  abbrev pub Says : Outcome → Type 0
+  Says (go y) = Ok H y × Did H n y a
+  Says (halt k) = Found k
+
+  pub says : {o : Outcome} → Right H n a o → Says o
+  says (on k d) = (k, d)
+  says (off f) = f

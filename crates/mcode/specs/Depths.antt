@@ -1,0 +1,183 @@
+-- Depths: what a fitting assignment of marks is, for any analysis of one module's code; then the paper's rules as one analysis.
+-- A mark is a number, and only this file knows what it encodes: today the depth itself, and FF hex where a position is unmarked.
+use Prim.Native.Nat.{ℕ, zero, suc, _+_, _-_, _*_, _≤_, _<_}
+use mathlib.Core.Path.{_≡_}
+use mathlib.Core.Bool.{Bool, true, false}
+use mathlib.Core.List.{List, _++_}
+use lib.ListN.{length, getD, take, drop, replicate}
+use lib.Dec.{ltb, leb, eqb}
+use Rattle.mcode.specs.Word.{pick, and, or, allBelow, wrap, byte, wordOf}
+use Rattle.mcode.specs.Opcode.{lengths, takens, lefts}
+use Rattle.mcode.specs.Image.{moduleOf, codeByte, procCount, entryOf, paramsOf, resultsOf, inCode}
+use Rattle.mcode.specs.declared.Module.{Module}
+use Rattle.mcode.specs.declared.Program.{Program}
+use Rattle.mcode.specs.declared.Flow.{Flow}
+use Rattle.mcode.specs.declared.Flow.the-variants.{Fault, Ends, To, Fork}
+
+-- An analysis of a code of `size` bytes: the number that means unmarked, the entries with their marks, and what follows a
+-- position that has a mark.
+pub record Analysis : Type 0 where
+  pub size : ℕ
+  pub none : ℕ
+  pub entries : ℕ
+  pub entryAt : ℕ → ℕ
+  pub entryMark : ℕ → ℕ
+  pub flow : ℕ → ℕ → Flow
+
+-- the mark of position p in the assignment m; a position outside is unmarked
+abbrev pub mark : Analysis → List ℕ → ℕ → ℕ
+mark A m p = getD m p (A .none)
+
+abbrev pub Marked : Analysis → List ℕ → ℕ → Type 0
+Marked A m p = mark A m p ≡ A .none → ⊥
+
+-- "every successor lies in the code, marked with the resulting depth"
+abbrev pub Follows : Analysis → List ℕ → Flow → Type 0
+Follows A m Fault = ⊥
+Follows A m Ends = Unit {0}
+Follows A m (To q d) = mark A m q ≡ d
+Follows A m (Fork q d r e) = (mark A m q ≡ d) × (mark A m r ≡ e)
+
+-- "A fitting assignment marks some positions": every entry, and after a marked position its successors
+pub record Fits (A : Analysis) (m : List ℕ) : Type 0 where
+  pub sized : length m ≡ A .size
+  pub enters : (i : ℕ) → i < A .entries → mark A m (A .entryAt i) ≡ A .entryMark i
+  pub follows : (p : ℕ) → Marked A m p → Follows A m (A .flow p (mark A m p))
+
+abbrev pub NoneFits : Analysis → Type 0
+NoneFits A = (m : List ℕ) → Fits A m → ⊥
+
+-- "the fewest that fit: every other fitting assignment marks these positions too, with the same depths"
+pub record Fewest (A : Analysis) (m : List ℕ) : Type 0 where
+  pub fits : Fits A m
+  pub least : (m′ : List ℕ) → Fits A m′ → (p : ℕ) → Marked A m p → mark A m′ p ≡ mark A m p
+
+-- the answer of a check and what it leaves in the module's part of the map
+abbrev pub Answer : Analysis → Bool → List ℕ → Type 0
+Answer A true m = Fewest A m
+Answer A false m = NoneFits A × (m ≡ replicate (A .size) (A .none))
+
+-- the rules of Fits as a test, which run makes of a lent map (proofs/Tests.antt: they say the same)
+abbrev pub followed : Analysis → List ℕ → Flow → Bool
+followed A m Fault = false
+followed A m Ends = true
+followed A m (To q d) = eqb (mark A m q) d
+followed A m (Fork q d r e) = and (eqb (mark A m q) d) (eqb (mark A m r) e)
+
+unfoldable pub fits : Analysis → List ℕ → Bool
+fits A m =
+    and (eqb (length m) (A .size))
+    (and (allBelow (A .entries) (λ i. eqb (mark A m (A .entryAt i)) (A .entryMark i)))
+    (allBelow (A .size) (λ p. or (eqb (mark A m p) (A .none)) (followed A m (A .flow p (mark A m p))))))
+
+-- ---- the rules of the paper
+
+-- "Jumps, from the operand's first byte", which is at s and is b; c is the byte after it. Sums are taken modulo 65,536: one below 0
+-- is then 32,768 or more, which lies outside of any code, as one at or past the code's length does.
+abbrev pub forward : ℕ → ℕ → ℕ
+forward s n = wrap (s + n)
+
+abbrev pub back : ℕ → ℕ → ℕ
+back s n = wrap (s + (0x1_0000 - n))
+
+-- the target of the jump op: 030 and 031 "w signed", 034 and 035 "b back", the others "b forward"
+unfoldable pub target : ℕ → ℕ → ℕ → ℕ → ℕ
+target op s b c =
+    pick (ltb op 0o32) (forward s (wordOf b c))
+    (pick (or (eqb op 0o34) (eqb op 0o35)) (back s b)
+    (forward s b))
+
+-- after the jump op to t, with the next instruction at n and the depth e that its row says. "The rows of 036 and 037 say 1 left,
+-- which holds where they jump; else 0 are left."
+unfoldable pub jumps : ℕ → ℕ → ℕ → ℕ → Flow
+jumps op t n e =
+    pick (leb 0o36 op) (Fork t e n (e - 1))
+    (pick (or (eqb op 0o31) (or (eqb op 0o33) (eqb op 0o35))) (To t e)
+    (Fork t e n e))
+
+-- a call of procedure i of module m: "At a call the depth (after CI's link) equals the callee's parameters, and the next position
+-- has its results." "Module and procedure operands must exist."
+unfoldable pub calls : List ℕ → Module → ℕ → ℕ → ℕ → Flow
+calls image m i n e =
+    pick (ltb i (procCount m))
+    (pick (eqb e (paramsOf image m i)) (To n (resultsOf image m i)) Fault)
+    Fault
+
+-- the same in module k: 355 m n
+unfoldable pub callsIn : List ℕ → Program → ℕ → ℕ → ℕ → ℕ → Flow
+callsIn image program k i n e = pick (ltb k (program .count)) (calls image (moduleOf program k) i n e) Fault
+
+-- 027, 042 and 062 name a module
+abbrev pub namesModule : ℕ → Bool
+namesModule op = or (eqb op 0o27) (or (eqb op 0o42) (eqb op 0o62))
+
+-- a listed instruction op of module m at p, whose operand bytes are b and c; n is the next position, e the depth that its row
+-- says. "RTN and TRAP have no successor."
+unfoldable pub onward : List ℕ → Program → Module → ℕ → ℕ → ℕ → ℕ → ℕ → ℕ → Flow
+onward image program m p op b c n e =
+    pick (or (eqb op 0o304) (eqb op 0o354)) Ends
+    (pick (and (leb 0o30 op) (ltb op 0o40)) (jumps op (target op (p + 1) b c) n e)
+    (pick (namesModule op) (pick (ltb b (program .count)) (To n e) Fault)
+    (pick (ltb op 0o355) (To n e)
+    (pick (eqb op 0o355) (callsIn image program b c n e)
+    (pick (leb op 0o360) (calls image m b n e)
+    (calls image m (op - 0o360) n e))))))
+
+-- what follows position p of module m at depth d: "a marked position holds a listed opcode whose operands lie in the code, takes
+-- no more than the depth, leaves at most 16", and a depth is 0 to 16
+unfoldable pub flowAt : List ℕ → Program → Module → ℕ → ℕ → Flow
+flowAt image program m p d =
+    let op = codeByte image m p in
+    let size = getD lengths op 0 in
+    let taken = getD takens op 0 in
+    let e = d - taken + getD lefts op 0 in
+    pick (ltb 16 d) Fault
+    (pick (eqb size 0) Fault
+    (pick (ltb (m .length) (p + size)) Fault
+    (pick (ltb d taken) Fault
+    (pick (ltb 16 e) Fault
+    (onward image program m p op (codeByte image m (p + 1)) (codeByte image m (p + 2)) (p + size) e)))))
+
+-- the depths of one module's code: "every entry with its parameter count"
+abbrev pub depths : List ℕ → Program → Module → Analysis
+depths image program m = record {
+  size = m .length;
+  none = 0xff;
+  entries = procCount m;
+  entryAt = entryOf image m;
+  entryMark = paramsOf image m;
+  flow = flowAt image program m;
+}
+
+-- the map says that position q of module m has depth d: the mark lies in the code, and is no FF
+unfoldable pub marked : List ℕ → Module → ℕ → ℕ → Bool
+marked map m q d = and (ltb q (m .length)) (and (leb d 16) (eqb (byte map (m .code + q)) d))
+
+-- module m's part of the map: "one byte per image byte"
+abbrev pub marksOf : List ℕ → Module → List ℕ
+marksOf map m = take (m .length) (drop (m .code) map)
+
+-- run's test of a lent map: each module's part fits, and "an image byte outside the code must have FF"
+unfoldable pub mapFits : List ℕ → Program → List ℕ → Bool
+mapFits image program map =
+    and (allBelow (program .count) (λ k. fits (depths image program (moduleOf program k)) (marksOf map (moduleOf program k))))
+    (allBelow (length image) (λ i. or (inCode program i) (eqb (byte map i) 0xff)))
+
+-- "Map bytes past the image stay unchanged."
+pub record KeptPast (image before after : List ℕ) : Type 0 where
+  pub long : length after ≡ length before
+  pub past : (i : ℕ) → length image ≤ i → byte after i ≡ byte before i
+
+-- load accepts: each module's part of the map is the fewest, and the rest of the image has FF
+pub record Accepted (image : List ℕ) (program : Program) (before after : List ℕ) : Type 0 where
+  pub fewest : (k : ℕ) → k < program .count → Fewest (depths image program (moduleOf program k)) (marksOf after (moduleOf program k))
+  pub outside : (i : ℕ) → i < length image → inCode program i ≡ false → byte after i ≡ 0xff
+  pub kept : KeptPast image before after
+
+-- load refuses with 8: some module has no fitting assignment, and the map is "FF over the image's length"
+pub record NoDepths (image : List ℕ) (program : Program) (before after : List ℕ) : Type 0 where
+  pub unfit : ℕ
+  pub loaded : unfit < program .count
+  pub none : NoneFits (depths image program (moduleOf program unfit))
+  pub blank : (i : ℕ) → i < length image → byte after i ≡ 0xff
+  pub kept : KeptPast image before after

@@ -1,0 +1,10 @@
+pub mod Word
+pub mod Opcode
+pub mod Image
+pub mod Depths
+pub mod Machine
+pub mod Decode
+pub mod Step
+pub mod Run
+pub mod Demands
+pub mod Marked

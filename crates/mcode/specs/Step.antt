@@ -1,0 +1,258 @@
+-- One step: the instruction at the machine's position is decoded to an action, and the action is performed.
+use Prim.Native.Nat.{ℕ, zero, suc, _+_, _-_, _*_, _/_, _%_}
+use mathlib.Core.Bool.{Bool, true, false}
+use mathlib.Core.List.{List, [], _∷_}
+use lib.ListN.{length, getD, set, replicate}
+use lib.Dec.{ltb, leb, eqb}
+use Rattle.mcode.specs.Word.{pick, and, wrap, byteOf, withByte, oneOf, twoOf, threeOf}
+use Rattle.mcode.specs.Image.{moduleOf, basesOf, codeByte, entryOf, margin}
+use Rattle.mcode.specs.Depths.{marked}
+use Rattle.mcode.specs.Machine.{State, state, Outcome, go, halt, address, position, machine, at, framed, depth, top, second, third, on, take1, take2, take3, put, replace1, replace2, replace3}
+use Rattle.mcode.specs.declared.Address.{Address}
+use Rattle.mcode.specs.declared.Position.{Position}
+use Rattle.mcode.specs.declared.Registers.{Registers}
+use Rattle.mcode.specs.declared.Machine.{Machine}
+use Rattle.mcode.specs.declared.Program.{Program}
+use Rattle.mcode.specs.declared.Stop.{Stop}
+use Rattle.mcode.specs.declared.Stop.the-variants.{Ended, BadAddress, StackLimit, ReturnMark, BadProcess, BadChannel, Program as OfProgram}
+use Rattle.mcode.specs.declared.Value.{Value}
+use Rattle.mcode.specs.declared.Value.the-variants.{Is, Fault}
+use Rattle.mcode.specs.Decode.{Decoded, decodeOf, Action, Put, AddTop, Jump, JumpZero, OrJump, AndJump, Load, LoadTop, LoadIndexed, Store, StoreBelow, StoreIndexed, LoadByte, StoreByte, One, Two, Three, Copy, Nothing, Read, Write, Trap, Enter, Follow, Call, CallLinked, CallExternal, Return, Transfer}
+
+-- what a run is lent and only reads
+pub record Lent : Type 0 where
+  pub image : List ℕ
+  pub program : Program
+  pub map : List ℕ
+  pub inputs : List ℕ
+
+-- ---- performing: q is the next position; the store and the outputs stay where only the machine is given
+
+abbrev pub goes : State → Machine → Outcome
+goes x m = go (state m (x .store) (x .outputs))
+
+abbrev pub storesTo : State → Machine → List ℕ → Outcome
+storesTo x m store = go (state m store (x .outputs))
+
+-- "an address not below W is trap 32 where a word is read or written"
+abbrev pub inStore : State → ℕ → Outcome → Outcome
+inStore x a o = pick (ltb a (length (x .store))) o (halt BadAddress)
+
+-- the word at an address
+abbrev pub wordIn : State → ℕ → ℕ
+wordIn x a = getD (x .store) a 0
+
+-- a computed word, handed on, or its trap
+abbrev pub computed : Value → (ℕ → Outcome) → Outcome
+computed (Is v) f = f v
+computed (Fault k) f = halt k
+
+-- "350 b: from L, b times the word at that address"
+unfoldable pub followed : List ℕ → ℕ → ℕ → Value
+followed store zero a = Is a
+followed store (suc n) a = let next = followed store n (getD store a 0) in pick (ltb a (length store)) next (Fault BadAddress)
+
+-- "S+4 above H is 33. Words S, S+1, S+2 become link (L; a; G for 355), L, next position (+8000 hex for 355); L = S, S += 4."
+-- A call of procedure n of module k, from the machine m, which has the link off its stack
+unfoldable pub call : Lent → ℕ → ℕ → ℕ → ℕ → Machine → State → Outcome
+call lent k n link mark m x =
+    let r = m .registers in
+    let s = r .s .0 in
+    pick (ltb (r .h .0) (s + 4)) (halt StackLimit)
+    (storesTo x
+    (machine (at (position (entryOf (lent .image) (moduleOf (lent .program) k) n)) (r .depth) (framed k s (s + 4) r)) (m .stack))
+    (set (set (set (x .store) s link) (s + 1) (r .l .0)) (s + 2) mark))
+
+-- the number of the module with the base g, or the count of modules where there is none
+unfoldable pub unitOf : List ℕ → ℕ → ℕ → ℕ
+unitOf [] n g = zero
+unitOf (b ∷ bases) zero g = zero
+unitOf (b ∷ bases) (suc n) g = pick (eqb b g) 0 (suc (unitOf bases n g))
+
+abbrev pub unitBased : Program → ℕ → ℕ
+unitBased program g = unitOf (basesOf program) (program .count) g
+
+-- a loaded module and a position in it that is marked with depth d
+abbrev pub standing : Lent → ℕ → ℕ → ℕ → Bool
+standing lent k q d = and (ltb k (lent .program .count)) (marked (lent .map) (moduleOf (lent .program) k) q d)
+
+-- back to position t of module k: "no such module, or no mark equal to the current depth there: 34. S = L, L = word L+1."
+unfoldable pub backTo : Lent → ℕ → ℕ → State → Outcome
+backTo lent k t x =
+    let m = x .machine in
+    let r = m .registers in
+    pick (standing lent k t (r .depth))
+    (goes x (machine (at (position t) (r .depth) (framed k (wordIn x (r .l .0 + 1)) (r .l .0) r)) (m .stack)))
+    (halt ReturnMark)
+
+-- "354: L above H is 34. Word L+2 of 7FFF hex ends. Below 8000 hex it is a position here, else minus 8000 hex in the module whose
+-- base is word L."
+unfoldable pub returned : Lent → State → Outcome
+returned lent x =
+    let r = x .machine .registers in
+    let l = r .l .0 in
+    let t = wordIn x (l + 2) in
+    pick (ltb (r .h .0) l) (halt ReturnMark)
+    (pick (eqb t 0x7fff) (halt Ended)
+    (pick (ltb t 0x8000) (backTo lent (r .unit) t x)
+    (backTo lent (unitBased (lent .program) (wordIn x l)) (t - 0x8000) x)))
+
+-- ---- 256 b, TRANSFER
+
+-- "words q.. are G, L, position, M, s, v", with k = word s-1
+pub record Process : Type 0 where
+  pub g : ℕ
+  pub l : ℕ
+  pub pc : ℕ
+  pub mask : ℕ
+  pub s : ℕ
+  pub v : ℕ
+  pub k : ℕ
+
+abbrev pub processAt : List ℕ → ℕ → Process
+processAt store q = record {
+  g = getD store q 0;
+  l = getD store (q + 1) 0;
+  pc = getD store (q + 2) 0;
+  mask = getD store (q + 3) 0;
+  s = getD store (q + 4) 0;
+  v = getD store (q + 5) 0;
+  k = getD store (getD store (q + 4) 0 - 1) 0;
+}
+
+-- "q+8 <= W; 24 <= v <= W; 1 <= s <= W; k <= 16, k < s; s-1-k <= v-24; G a base, position marked k there"
+unfoldable pub isProcess : Lent → ℕ → ℕ → Process → Bool
+isProcess lent w q r =
+    and (leb (q + 8) w)
+    (and (and (leb margin (r .v)) (leb (r .v) w))
+    (and (and (leb 1 (r .s)) (leb (r .s) w))
+    (and (and (leb (r .k) 16) (ltb (r .k) (r .s)))
+    (and (leb (r .s - 1 - r .k) (r .v - margin))
+    (standing lent (unitBased (lent .program) (r .g)) (r .pc) (r .k))))))
+
+-- the words below n of the stack, from s up, "top first"
+unfoldable pub saved : List ℕ → ℕ → ℕ → List ℕ → List ℕ
+saved stack zero s store = store
+saved stack (suc n) s store = saved stack n (s + 1) (set store s (getD stack n 0))
+
+-- the k words from a up, the lowest of them on top
+unfoldable pub restored : List ℕ → ℕ → ℕ → List ℕ → List ℕ
+restored store zero a stack = stack
+restored store (suc k) a stack = restored store k (a + 1) (set stack k (getD store a 0))
+
+-- words from a up
+unfoldable pub written : List ℕ → ℕ → List ℕ → List ℕ
+written [] a store = store
+written (v ∷ vs) a store = written vs (a + 1) (set store a v)
+
+-- "Then save: the remaining stack from S up, top first, then its count; S raised past it; G, L, next position, M, S, H+24 to P..P+5.
+-- Word c = P." The machine has n words left; writes in this order
+unfoldable pub savedStore : ℕ → Position → ℕ → State → ℕ → List ℕ
+savedStore g q c x n =
+    let r = x .machine .registers in
+    let s = r .s .0 in
+    let p = r .p .0 in
+    set
+    (written (g ∷ r .l .0 ∷ q .0 ∷ r .mask ∷ (s + n + 1) ∷ (r .h .0 + margin) ∷ []) p
+    (set (saved (x .machine .stack) n s (x .store)) (s + n) n))
+    c p
+
+-- "P = q. Restore G, L, S = s-1-k, H = v-24, the k words; M only if b /= 0."
+unfoldable pub restoredMachine : Lent → ℕ → ℕ → List ℕ → Process → Registers → Machine
+restoredMachine lent b q store r old =
+    machine
+    (record {
+      unit = unitBased (lent .program) (r .g);
+      pc = position (r .pc);
+      l = address (r .l);
+      s = address (r .s - 1 - r .k);
+      h = address (r .v - margin);
+      p = address q;
+      mask = pick (eqb b 0) (old .mask) (r .mask);
+      depth = r .k;
+    })
+    (restored store (r .k) (r .s - 1 - r .k) (replicate 16 0))
+
+-- "reading the store as before the instruction", "otherwise 35"
+unfoldable pub switched : Lent → ℕ → Position → ℕ → ℕ → State → Outcome
+switched lent b next c q x =
+    let m = x .machine in
+    let r = processAt (x .store) q in
+    pick (isProcess lent (length (x .store)) q r)
+    (storesTo x
+    (restoredMachine lent b q (x .store) r (m .registers))
+    (savedStore (getD (basesOf (lent .program)) (m .registers .unit) 0) next c x (depth m - 2)))
+    (halt BadProcess)
+
+-- "a and c are addresses (32, a first); q = word a. If q = P, word c becomes P and no more."
+unfoldable pub transferred : Lent → ℕ → Position → State → Outcome
+transferred lent b next x =
+    let m = x .machine in
+    let c = second m in
+    let q = wordIn x (top m) in
+    let p = m .registers .p .0 in
+    inStore x (top m)
+    (inStore x c
+    (pick (eqb q p) (storesTo x (take2 next m) (set (x .store) c p))
+    (switched lent b next c q x)))
+
+-- ---- every action
+
+unfoldable pub performOf : Lent → Action → Position → State → Outcome
+performOf lent (Put v) q x = goes x (put q (x .machine) v)
+performOf lent (AddTop b) q x = goes x (replace1 q (x .machine) (wrap (top (x .machine) + b)))
+performOf lent (Jump t) q x = goes x (on t (x .machine))
+performOf lent (JumpZero t) q x = goes x (pick (eqb (top (x .machine)) 0) (take1 t (x .machine)) (take1 q (x .machine)))
+performOf lent (OrJump t) q x = goes x (pick (eqb (top (x .machine)) 0) (take1 q (x .machine)) (replace1 t (x .machine) 1))
+performOf lent (AndJump t) q x = goes x (pick (eqb (top (x .machine)) 0) (replace1 t (x .machine) 0) (take1 q (x .machine)))
+performOf lent (Load a) q x = inStore x (a .0) (goes x (put q (x .machine) (wordIn x (a .0))))
+performOf lent (LoadTop k) q x = let a = wrap (top (x .machine) + k) in inStore x a (goes x (replace1 q (x .machine) (wordIn x a)))
+performOf lent LoadIndexed q x = let a = wrap (second (x .machine) + top (x .machine)) in inStore x a (goes x (replace2 q (x .machine) (wordIn x a)))
+performOf lent (Store a) q x = inStore x (a .0) (storesTo x (take1 q (x .machine)) (set (x .store) (a .0) (top (x .machine))))
+performOf lent (StoreBelow k) q x = let a = wrap (second (x .machine) + k) in inStore x a (storesTo x (take2 q (x .machine)) (set (x .store) a (top (x .machine))))
+performOf lent StoreIndexed q x = let a = wrap (third (x .machine) + second (x .machine)) in inStore x a (storesTo x (take3 q (x .machine)) (set (x .store) a (top (x .machine))))
+performOf lent LoadByte q x =
+    let i = top (x .machine) in
+    let a = wrap (second (x .machine) + i / 2) in
+    inStore x a (goes x (replace2 q (x .machine) (byteOf (wordIn x a) i)))
+performOf lent StoreByte q x =
+    let i = second (x .machine) in
+    let a = wrap (third (x .machine) + i / 2) in
+    inStore x a (storesTo x (take3 q (x .machine)) (set (x .store) a (withByte (wordIn x a) i (top (x .machine)))))
+performOf lent (One op) q x = computed (oneOf op (top (x .machine))) (λ v. goes x (replace1 q (x .machine) v))
+performOf lent (Two op) q x = computed (twoOf op (second (x .machine)) (top (x .machine))) (λ v. goes x (replace2 q (x .machine) v))
+performOf lent (Three op) q x = computed (threeOf op (third (x .machine)) (second (x .machine)) (top (x .machine))) (λ v. goes x (replace3 q (x .machine) v))
+performOf lent Copy q x = goes x (put q (x .machine) (top (x .machine)))
+performOf lent Nothing q x = goes x (on q (x .machine))
+-- "240: a channel, c address: the store word becomes that input." "Channel above 15 is 39, before 32."
+performOf lent Read q x =
+    let a = top (x .machine) in
+    let c = second (x .machine) in
+    pick (ltb 15 a) (halt BadChannel)
+    (inStore x c (storesTo x (take2 q (x .machine)) (set (x .store) c (getD (lent .inputs) a 0))))
+-- "241: output channel c becomes a."
+performOf lent Write q x =
+    let c = second (x .machine) in
+    pick (ltb 15 c) (halt BadChannel)
+    (go (state (take2 q (x .machine)) (x .store) (set (x .outputs) c (top (x .machine)))))
+performOf lent Trap q x = halt (OfProgram (top (x .machine)))
+-- "353 b: S+b above H is 33, else S += b."
+performOf lent (Enter b) q x =
+    let r = x .machine .registers in
+    pick (ltb (r .h .0) (r .s .0 + b)) (halt StackLimit)
+    (goes x (machine (at q (r .depth) (framed (r .unit) (r .l .0) (r .s .0 + b) r)) (x .machine .stack)))
+performOf lent (Follow b) q x = computed (followed (x .store) b (x .machine .registers .l .0)) (λ v. goes x (put q (x .machine) v))
+performOf lent (Call n) q x = call lent (x .machine .registers .unit) n (x .machine .registers .l .0) (q .0) (x .machine) x
+performOf lent (CallLinked n) q x = call lent (x .machine .registers .unit) n (top (x .machine)) (q .0) (take1 q (x .machine)) x
+performOf lent (CallExternal m n) q x = call lent m n (getD (basesOf (lent .program)) (x .machine .registers .unit) 0) (q .0 + 0x8000) (x .machine) x
+performOf lent Return q x = returned lent x
+performOf lent (Transfer b) q x = transferred lent b q x
+
+-- one step
+unfoldable pub stepOf : Lent → State → Outcome
+stepOf lent x =
+    let r = x .machine .registers in
+    let m = moduleOf (lent .program) (r .unit) in
+    let p = r .pc .0 in
+    let d = decodeOf (codeByte (lent .image) m p) (codeByte (lent .image) m (p + 1)) (codeByte (lent .image) m (p + 2)) r (basesOf (lent .program)) in
+    performOf lent (d .action) (position (p + d .size)) x

@@ -1,6 +1,7 @@
 pub mod Word
 pub mod Opcode
 pub mod Image
+pub mod Layout
 pub mod Depths
 pub mod Machine
 pub mod Decode

@@ -1,0 +1,51 @@
+use Rattle.mcode.specs.Step.{performOf}
+use Rattle.actions.proofs.Laws.{stays-at, stays-as}
+use native.Mathlib.Omega.{arith}
+use borrow.Author.Tests.{ne-eqb, lt-ltb, le-ltb, le-leb, lt-leb, eq-eqb}
+use borrow.Author.Needs.{needs}
+use Rattle.actions.proofs.compute.replace_two.Statement.{statement}
+use Rattle.actions.proofs.compute.replace_two.Tie as tie
+use Rattle.actions.proofs.compute.replace_two.Reads as reads
+use Rattle.actions.proofs.compute.replace_two.Lts as lts
+use Rattle.actions.proofs.leaf.gone.Reads as gone-reads
+
+sub-stack : tie.Need-sub-stack
+sub-stack c = search needs
+
+mul-stack : tie.Need-mul-stack
+mul-stack c = search needs
+
+element-write-stack : tie.Need-element-write-stack
+element-write-stack c = search needs
+
+sub-stack-2 : tie.Need-sub-stack-2
+sub-stack-2 c = search needs
+
+mul-stack-2 : tie.Need-mul-stack-2
+mul-stack-2 c = search needs
+
+element-write-stack-2 : tie.Need-element-write-stack-2
+element-write-stack-2 c = search needs
+
+sub-gone : tie.Need-sub-gone
+sub-gone c = search needs
+
+gone-requires : tie.Need-gone-requires
+gone-requires c κs = search needs
+
+returns : tie.Need-returns
+returns c = ((λ store out. rw (c .gone .ensures)), stays-at _ _ _ _ _ _ (c .gone .ensures))
+
+pub replace-two-spec : {M : Type 1} → statement M
+replace-two-spec =
+    tie.close
+    (tie.spec
+    sub-stack
+    mul-stack
+    element-write-stack
+    sub-stack-2
+    mul-stack-2
+    element-write-stack-2
+    sub-gone
+    gone-requires
+    returns)

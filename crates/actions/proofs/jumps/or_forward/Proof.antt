@@ -1,0 +1,49 @@
+use Rattle.mcode.specs.Step.{performOf}
+use Rattle.actions.proofs.Laws.{stays-at, stays-as}
+use native.Mathlib.Omega.{arith}
+use borrow.Author.Tests.{ne-eqb, lt-ltb, le-ltb, le-leb, lt-leb, eq-eqb}
+use borrow.Author.Needs.{needs}
+use Rattle.actions.proofs.jumps.or_forward.Statement.{statement}
+use Rattle.actions.proofs.jumps.or_forward.Tie as tie
+use Rattle.actions.proofs.jumps.or_forward.Reads as reads
+use Rattle.actions.proofs.jumps.or_forward.Lts as lts
+use Rattle.actions.proofs.leaf.forward.Reads as forward-reads
+use Rattle.actions.proofs.leaf.operand.Reads as operand-reads
+use Rattle.actions.proofs.leaf.replace_one.Reads as replace-one-reads
+use Rattle.actions.proofs.leaf.take_word.Reads as take-word-reads
+use Rattle.actions.proofs.leaf.top_of.Reads as top-of-reads
+
+top-of-requires : tie.Need-top-of-requires
+top-of-requires c κs = search needs
+
+take-word-requires : tie.Need-take-word-requires
+take-word-requires c κs = search needs
+
+operand-requires : tie.Need-operand-requires
+operand-requires c κs = search needs
+
+forward-requires : tie.Need-forward-requires
+forward-requires c κs = search needs
+
+replace-one-requires : tie.Need-replace-one-requires
+replace-one-requires c κs = search needs
+
+returns : tie.Need-returns
+unfolding performOf
+returns c = ((λ lent store out. rw (← c .before .before .before .top-of .ensures, eq-eqb _ _ (c .before .before .if1 .taken), c .take-word .ensures .0, c .take-word .ensures .1)), stays-at _ _ _ _ _ _ (c .take-word .ensures .0))
+
+returns-2 : tie.Need-returns-2
+unfolding performOf
+returns-2 c = ((λ lent store out. rw (← c .before .before .before .before .before .top-of .ensures, ne-eqb _ _ (c .before .before .before .before .if1 .left), c .replace-one .ensures .0, c .replace-one .ensures .1, c .before .forward .ensures, c .before .before .operand .ensures .0)), stays-at _ _ _ _ _ _ (c .replace-one .ensures .0))
+
+pub or-forward-spec : {M : Type 1} → statement M
+or-forward-spec =
+    tie.close
+    (tie.spec
+    top-of-requires
+    take-word-requires
+    operand-requires
+    forward-requires
+    replace-one-requires
+    returns
+    returns-2)

@@ -1,0 +1,55 @@
+use Rattle.mcode.specs.Step.{performOf}
+use Rattle.actions.proofs.Laws.{stays-at, stays-as}
+use native.Mathlib.Omega.{arith}
+use borrow.Author.Tests.{ne-eqb, lt-ltb, le-ltb, le-leb, lt-leb, eq-eqb}
+use borrow.Author.Needs.{needs}
+use Rattle.actions.proofs.memory.save.Statement.{statement}
+use Rattle.actions.proofs.memory.save.Tie as tie
+use Rattle.actions.proofs.memory.save.Reads as reads
+use Rattle.actions.proofs.memory.save.Lts as lts
+use Rattle.actions.proofs.leaf.take_word.Reads as take-word-reads
+use Rattle.actions.proofs.leaf.top_of.Reads as top-of-reads
+use Rattle.actions.proofs.leaf.trapped.Reads as trapped-reads
+
+cast-i : tie.Need-cast-i
+cast-i c = search needs
+
+top-of-requires : tie.Need-top-of-requires
+top-of-requires c κs = search needs
+
+mul-store : tie.Need-mul-store
+mul-store c = search needs
+
+slice-write-store : tie.Need-slice-write-store
+slice-write-store c = search needs
+
+take-word-requires : tie.Need-take-word-requires
+take-word-requires c κs = search needs
+
+trapped-requires : tie.Need-trapped-requires
+trapped-requires c κs = search needs
+
+same-length : tie.Need-same-length
+same-length c = search needs
+
+returns : tie.Need-returns
+unfolding performOf
+returns c = ((λ lent out. rw (lt-ltb _ _ (c .before .before .before .before .if1 .taken), c .take-word .ensures .0, c .take-word .ensures .1, c .before .before .top-of .ensures)), stays-at _ _ _ _ _ _ (c .take-word .ensures .0))
+
+returns-2 : tie.Need-returns-2
+unfolding performOf
+returns-2 c = ((λ lent out. rw (le-ltb _ _ (c .before .if1 .left), c .trapped .ensures)), stays-as _ _ _ _ (c .trapped .ensures))
+
+pub save-spec : {M : Type 1} → statement M
+save-spec =
+    tie.close
+    (tie.spec
+    cast-i
+    top-of-requires
+    mul-store
+    slice-write-store
+    take-word-requires
+    trapped-requires
+    same-length
+    returns
+    returns-2)

@@ -1,0 +1,170 @@
+use crate::Core;
+use crate::Stepped;
+use mcode::Address;
+ghost use mathlib.Core.Path.{_≡_};
+ghost use mathlib.Core.List.{List};
+ghost use Prim.Native.Nat.{ℕ, _+_, _-_, _≤_, _<_, _%_, _*_};
+ghost use lib.ListN.{length, getD, set};
+ghost use Rattle.mcode.specs.Word.{wrap, wordOf};
+ghost use Rattle.mcode.specs.Depths.{forward as ahead, back as behind};
+ghost use Rattle.mcode.specs.Machine as M;
+ghost use Rattle.mcode.specs.Machine.{position, address};
+ghost use Rattle.mcode.specs.Decode.{sum};
+ghost use Rattle.mcode.specs.Step.{Lent, goes};
+ghost use Rattle.mcode.specs.Decode as Act;
+ghost use Rattle.actions.specs.Core.{held, result, leftBy, acted, operandAt, Stays, at, stepped, shown};
+
+pub fn wide(x: u8) -> u16
+    ensures { λ q. ⌜ (q ≡ x) × (q < 256) ⌝ }
+{
+    x as u16
+}
+
+// Operand byte k of the instruction.
+pub fn operand(r: Core, image: &[u8], k: usize) -> u16
+    requires { ⌜ r .start + r .pc + k < length (now image) ⌝ }
+    ensures { λ q. ⌜ (q ≡ operandAt (now (image .entry)) r k) × (q < 256) ⌝ }
+{
+    let i = r.start + (r.pc + k);
+    wide(image[i])
+}
+
+// The operand word.
+pub fn operand_word(r: Core, image: &[u8]) -> u16
+    requires { ⌜ r .start + r .pc + 2 < length (now image) ⌝ }
+    ensures { λ q. ⌜ q ≡ wordOf (operandAt (now (image .entry)) r 1) (operandAt (now (image .entry)) r 2) ⌝ }
+{
+    let b = operand(r, image, 1);
+    let c = operand(r, image, 2);
+    b * 256 + c
+}
+
+pub fn plus(a: Address, n: u16) -> Address
+    ensures { λ q. ⌜ q ≡ sum (a .0) n ⌝ }
+{
+    Address(std::num::wrapping_add_u16(a.0, n))
+}
+
+// The base of module k.
+pub fn base_of(table: &[u16; 193], k: u16) -> Address
+    requires { ⌜ k < 32 ⌝ }
+    ensures { λ q. ⌜ q ≡ address (getD (now (table .entry)) (6 * k + 4) 0) ⌝ }
+{
+    let i = 6 * k as usize + 4;
+    Address(table[i])
+}
+
+// A jump counts from the operand's first byte.
+pub fn forward(r: Core, n: u16) -> usize
+    requires { ⌜ r .pc ≤ 65535 ⌝ }
+    ensures { λ q. ⌜ q ≡ ahead (r .pc + 1) n ⌝ }
+{
+    (r.pc + 1 + n as usize) % 65536
+}
+
+pub fn back(r: Core, n: u16) -> usize
+    requires { ⌜ r .pc ≤ 65535 ⌝ }
+    ensures { λ q. ⌜ q ≡ behind (r .pc + 1) n ⌝ }
+{
+    let k = 65536 - n as usize;
+    (r.pc + 1 + k) % 65536
+}
+
+pub fn top_of(r: Core, stack: &[u16; 16]) -> u16
+    requires { ⌜ (0 < r .depth) × (r .depth ≤ 16) ⌝ }
+    ensures { λ q. ⌜ q ≡ getD (now (stack .entry)) (r .depth - 1) 0 ⌝ }
+{
+    let d = r.depth;
+    stack[d - 1]
+}
+
+pub fn second_of(r: Core, stack: &[u16; 16]) -> u16
+    requires { ⌜ (1 < r .depth) × (r .depth ≤ 16) ⌝ }
+    ensures { λ q. ⌜ q ≡ getD (now (stack .entry)) (r .depth - 2) 0 ⌝ }
+{
+    let d = r.depth;
+    stack[d - 2]
+}
+
+// The fields are copied one by one: a copy of the whole struct keeps the compiler from holding each in a register of its own.
+pub fn trapped(r: Core, stop: u32) -> Stepped
+    ensures { λ q. ⌜ q ≡ stepped stop 0 r ⌝ }
+{
+    let pc = r.pc;
+    let depth = r.depth;
+    let start = r.start;
+    let unit = r.unit;
+    let g = r.g;
+    let l = r.l;
+    let s = r.s;
+    let h = r.h;
+    let p = r.p;
+    let mask = r.mask;
+    let q = Core {
+        pc,
+        depth,
+        start,
+        unit,
+        g,
+        l,
+        s,
+        h,
+        p,
+        mask,
+    };
+    Stepped {
+        stop,
+        code: 0,
+        core: q,
+    }
+}
+
+// No stop: the registers at a place of the code and a depth.
+pub fn gone(r: Core, depth: usize, to: usize) -> Stepped
+    ensures { λ q. ⌜ q ≡ stepped 0 0 (at to depth r) ⌝ }
+{
+    let pc = to;
+    let start = r.start;
+    let unit = r.unit;
+    let g = r.g;
+    let l = r.l;
+    let s = r.s;
+    let h = r.h;
+    let p = r.p;
+    let mask = r.mask;
+    let q = Core {
+        pc,
+        depth,
+        start,
+        unit,
+        g,
+        l,
+        s,
+        h,
+        p,
+        mask,
+    };
+    Stepped {
+        stop: 0,
+        code: 0,
+        core: q,
+    }
+}
+
+pub fn take_word(r: Core, stack: &mut [u16; 16], to: usize) -> Stepped
+    requires { ⌜ (0 < r .depth) × (r .depth ≤ 16) ⌝ }
+    ensures { λ q. ⌜ (q ≡ stepped 0 0 (at to (r .depth - 1) r)) × (now (stack .exit) ≡ set (now (stack .entry)) (r .depth - 1) 0) ⌝ }
+{
+    let d = r.depth;
+    stack[d - 1] = 0;
+    gone(r, d - 1, to)
+}
+
+pub fn replace_one(r: Core, stack: &mut [u16; 16], v: u16, to: usize) -> Stepped
+    requires { ⌜ (0 < r .depth) × (r .depth ≤ 16) ⌝ }
+    ensures { λ q. ⌜ (q ≡ stepped 0 0 (at to (r .depth) r)) × (now (stack .exit) ≡ set (now (stack .entry)) (r .depth - 1) v) ⌝ }
+{
+    let d = r.depth;
+    stack[d - 1] = v;
+    gone(r, d, to)
+}

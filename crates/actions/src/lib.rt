@@ -1,0 +1,28 @@
+// The actions of the instructions, one function each, over the registers as the stepping loop holds them.
+use mcode::Address;
+
+// The registers as the stepping loop holds them: those of mcode, with the start of the module's code in the image and its base.
+pub struct Core {
+    pub pc: usize,
+    pub depth: usize,
+    pub start: usize,
+    pub unit: u16,
+    pub g: Address,
+    pub l: Address,
+    pub s: Address,
+    pub h: Address,
+    pub p: Address,
+    pub mask: u16,
+}
+
+// What a step answers: 0 and the registers after it, or a stop.
+pub struct Stepped {
+    pub stop: u32,
+    pub code: u32,
+    pub core: Core,
+}
+
+pub mod compute;
+pub mod jumps;
+pub mod leaf;
+pub mod memory;

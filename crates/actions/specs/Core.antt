@@ -3,6 +3,8 @@ use mathlib.Core.Path.{_≡_}
 use Prim.Native.Nat.{ℕ, _+_}
 use mathlib.Core.List.{List}
 use lib.ListN.{getD}
+use lib.Dec.{eqb}
+use Rattle.mcode.specs.Word.{pick}
 use Rattle.mcode.specs.Image.{basesOf}
 use Rattle.mcode.specs.Machine.{State, state, Outcome, go, halt, position, machine, stopNumber, stopCode}
 use Rattle.mcode.specs.Decode.{Action, decodeOf}
@@ -47,6 +49,14 @@ instruction lent op b c x =
     let r = x .machine .registers in
     let d = decodeOf op b c r (basesOf (lent .program)) in
     leftBy x (performOf lent (d .action) (position (r .pc .0 + d .size)) x)
+
+-- the opcode that the stepping loop performs where its budget is spent: it is not listed, so no map marks it
+abbrev pub spentOp : ℕ
+spentOp = 0o340
+
+-- an instruction, or the spent opcode: "30 spent"
+unfoldable pub performed : Lent → ℕ → ℕ → ℕ → State → Left
+performed lent op b c x = pick (eqb op spentOp) (record { stop = 30; code = 0; state = x }) (instruction lent op b c x)
 
 -- the module stays
 pub record Stays (r q : Core) : Type 0 where

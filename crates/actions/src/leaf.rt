@@ -86,6 +86,14 @@ pub fn second_of(r: Core, stack: &[u16; 16]) -> u16
     stack[d - 2]
 }
 
+pub fn third_of(r: Core, stack: &[u16; 16]) -> u16
+    requires { ⌜ (2 < r .depth) × (r .depth ≤ 16) ⌝ }
+    ensures { λ q. ⌜ q ≡ getD (now (stack .entry)) (r .depth - 3) 0 ⌝ }
+{
+    let d = r.depth;
+    stack[d - 3]
+}
+
 // The fields are copied one by one: a copy of the whole struct keeps the compiler from holding each in a register of its own.
 pub fn trapped(r: Core, stop: u32) -> Stepped
     ensures { λ q. ⌜ q ≡ stepped stop 0 r ⌝ }
@@ -158,6 +166,27 @@ pub fn take_word(r: Core, stack: &mut [u16; 16], to: usize) -> Stepped
     let d = r.depth;
     stack[d - 1] = 0;
     gone(r, d - 1, to)
+}
+
+pub fn take_two(r: Core, stack: &mut [u16; 16], to: usize) -> Stepped
+    requires { ⌜ (1 < r .depth) × (r .depth ≤ 16) ⌝ }
+    ensures { λ q. ⌜ (q ≡ stepped 0 0 (at to (r .depth - 2) r)) × (now (stack .exit) ≡ set (set (now (stack .entry)) (r .depth - 1) 0) (r .depth - 2) 0) ⌝ }
+{
+    let d = r.depth;
+    stack[d - 1] = 0;
+    stack[d - 2] = 0;
+    gone(r, d - 2, to)
+}
+
+pub fn take_three(r: Core, stack: &mut [u16; 16], to: usize) -> Stepped
+    requires { ⌜ (2 < r .depth) × (r .depth ≤ 16) ⌝ }
+    ensures { λ q. ⌜ (q ≡ stepped 0 0 (at to (r .depth - 3) r)) × (now (stack .exit) ≡ set (set (set (now (stack .entry)) (r .depth - 1) 0) (r .depth - 2) 0) (r .depth - 3) 0) ⌝ }
+{
+    let d = r.depth;
+    stack[d - 1] = 0;
+    stack[d - 2] = 0;
+    stack[d - 3] = 0;
+    gone(r, d - 3, to)
 }
 
 pub fn replace_one(r: Core, stack: &mut [u16; 16], v: u16, to: usize) -> Stepped

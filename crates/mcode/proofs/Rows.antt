@@ -11,15 +11,10 @@ use native.Mathlib.Decide.{decLt}
 use Rattle.mcode.proofs.Every.{at, both}
 use Rattle.mcode.specs.declared.Registers.{Registers}
 use Rattle.mcode.specs.Decode.{Action, Put, AddTop, Jump, JumpZero, OrJump, AndJump, Load, LoadTop, LoadIndexed, Store, StoreBelow, StoreIndexed, LoadByte, StoreByte, One, Two, Three, Copy, Nothing, Read, Write, Trap, Enter, Follow, Call, CallLinked, CallExternal, Return, Transfer}
-use Rattle.mcode.specs.Opcode.{lengths, takens, lefts}
+use Rattle.mcode.specs.Opcode.{lengths, takens, lefts, usedBelow}
+use Rattle.mcode.specs.Demands.{Row, RowRule}
 use Rattle.mcode.specs.Depths.{target}
 use Rattle.mcode.specs.Decode.{decodeOf, row1, loads, stores, row8, row9, row10, row11, row12, row13, row14, row15}
-
--- "a used row has length 1 to 3, at most 3 taken and 2 left, an unused row length 0"
-pub record Row (op : ℕ) : Type 0 where
-  pub long : getD lengths op 0 ≤ 3
-  pub taken : getD takens op 0 ≤ 3
-  pub left : getD lefts op 0 ≤ 2
 
 pub row-rule : (op : ℕ) → op < 256 → Row op
 unfolding lengths takens lefts
@@ -28,6 +23,10 @@ row-rule op h = record {
   taken = leb→le (getD takens op 0) 3 (at (λ (k x : ℕ). leb x 3) takens tt op h);
   left = leb→le (getD lefts op 0) 2 (at (λ (k x : ℕ). leb x 2) lefts tt op h);
 }
+
+pub row-rule-holds : RowRule
+unfolding RowRule usedBelow lengths
+row-rule-holds = (row-rule, refl)
 
 -- the words that an action takes from the stack, and those that it then puts
 abbrev pub takenBy : Action → ℕ

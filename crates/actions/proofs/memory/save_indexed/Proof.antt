@@ -1,0 +1,70 @@
+use Rattle.mcode.specs.Step.{performOf}
+use Rattle.actions.proofs.Laws.{stays-at, stays-as}
+use native.Mathlib.Omega.{arith}
+use borrow.Author.Tests.{ne-eqb, lt-ltb, le-ltb, le-leb, lt-leb, eq-eqb}
+use borrow.Author.Needs.{needs}
+use Rattle.actions.proofs.memory.save_indexed.Statement.{statement}
+use Rattle.actions.proofs.memory.save_indexed.Tie as tie
+use Rattle.actions.proofs.memory.save_indexed.Reads as reads
+use Rattle.actions.proofs.memory.save_indexed.Lts as lts
+use Rattle.actions.proofs.leaf.second_of.Reads as second-of-reads
+use Rattle.actions.proofs.leaf.take_three.Reads as take-three-reads
+use Rattle.actions.proofs.leaf.third_of.Reads as third-of-reads
+use Rattle.actions.proofs.leaf.top_of.Reads as top-of-reads
+use Rattle.actions.proofs.leaf.trapped.Reads as trapped-reads
+use Rattle.std.proofs.num.wrapping_add_u16.Reads as wrapping-add-u16-reads
+
+third-of-requires : tie.Need-third-of-requires
+third-of-requires c κs = search needs
+
+second-of-requires : tie.Need-second-of-requires
+second-of-requires c κs = search needs
+
+wrapping-add-u16-requires : tie.Need-wrapping-add-u16-requires
+wrapping-add-u16-requires c κs = search needs
+
+cast-i : tie.Need-cast-i
+cast-i c = search needs
+
+top-of-requires : tie.Need-top-of-requires
+top-of-requires c κs = search needs
+
+mul-store : tie.Need-mul-store
+mul-store c = search needs
+
+slice-write-store : tie.Need-slice-write-store
+slice-write-store c = search needs
+
+take-three-requires : tie.Need-take-three-requires
+take-three-requires c κs = search needs
+
+trapped-requires : tie.Need-trapped-requires
+trapped-requires c κs = search needs
+
+same-length : tie.Need-same-length
+same-length c = search needs
+
+returns : tie.Need-returns
+unfolding performOf
+returns c = ((λ lent out. rw (← c .before .before .before .before .before .before .before .before .third-of .ensures, ← c .before .before .before .before .before .before .second-of .ensures, ← c .before .before .top-of .ensures, ← c .before .before .before .before .before .wrapping-add-u16 .ensures, lt-ltb _ _ (c .before .before .before .before .if1 .taken), c .take-three .ensures .0, c .take-three .ensures .1)), stays-at _ _ _ _ _ _ (c .take-three .ensures .0))
+
+returns-2 : tie.Need-returns-2
+unfolding performOf
+returns-2 c = ((λ lent out. rw (← c .before .before .before .before .before .third-of .ensures, ← c .before .before .before .second-of .ensures, ← c .before .before .wrapping-add-u16 .ensures, le-ltb _ _ (c .before .if1 .left), c .trapped .ensures)), stays-as _ _ _ _ (c .trapped .ensures))
+
+pub save-indexed-spec : {M : Type 1} → statement M
+save-indexed-spec =
+    tie.close
+    (tie.spec
+    third-of-requires
+    second-of-requires
+    wrapping-add-u16-requires
+    cast-i
+    top-of-requires
+    mul-store
+    slice-write-store
+    take-three-requires
+    trapped-requires
+    same-length
+    returns
+    returns-2)

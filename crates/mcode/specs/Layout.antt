@@ -39,6 +39,8 @@ pub record Told (image : List ℕ) (program : Program) : Type 0 where
   pub some : 1 ≤ program .count
   pub small : program .count ≤ 32
   pub table : length (program .modules) ≡ 32
+  pub blank : (k : ℕ) → program .count ≤ k → moduleOf program k ≡ noModule
+  pub high : firstModule ≤ program .end
   pub bare : paramsOf image (moduleOf program 0) 0 ≡ 0
   pub laid : Laid image (program .modules) (program .count) (length image) (program .end)
 

@@ -1,6 +1,6 @@
 -- What is true of every image that is read without a refusal: its modules lie in it one behind another, their records are in range, and
 -- their data lie in the store one behind another. Proved in proofs/Reader.antt; the functions above the reader ask for it.
-use Prim.Native.Nat.{ℕ, _+_, _≤_, _<_}
+use Prim.Native.Nat.{ℕ, _+_, _*_, _≤_, _<_}
 use mathlib.Core.Path.{_≡_}
 use mathlib.Core.List.{List}
 use lib.ListN.{length, getD}
@@ -17,6 +17,7 @@ pub record Sound (image : List ℕ) (m : Module) : Type 0 where
   pub within : m .code + m .length ≤ length image
   pub short : m .length ≤ 32767
   pub near : m .table ≤ 65535
+  pub records : m .table + 4 * m .procs ≤ m .code
   pub few : Bytes image → m .procs ≤ 255
   pub entries : (i : ℕ) → i < procCount m → entryOf image m i < m .length
   pub params : (i : ℕ) → i < procCount m → paramsOf image m i ≤ 16

@@ -1,0 +1,7 @@
+pub mod Lists
+pub mod Parts
+pub mod Theory
+pub mod Marks
+pub mod Same
+pub mod Bools
+pub mod Whole

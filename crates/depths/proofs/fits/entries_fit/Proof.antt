@@ -1,0 +1,81 @@
+-- The test of the entries; the loop keeps that those before i fit.
+use mathlib.Core.Path.{_≡_, sym, ap, _∙_}
+use mathlib.Core.Bool.{true}
+use Prim.Native.Nat.{ℕ, _-_, _≤_, _<_}
+use lib.ListN.{getD}
+use borrow.Author.Count.{below-more, below-none}
+use Rattle.mcode.specs.Image.{procCount}
+use Rattle.mcode.proofs.Tests.{at-all}
+use Rattle.depths.specs.Test.{entryFits}
+use Rattle.depths.proofs.Bools.{one-fails}
+use native.Mathlib.Omega.{arith}
+use borrow.Author.Tests.{ne-eqb, eq-eqb}
+use borrow.Author.Needs.{needs}
+use Rattle.depths.proofs.fits.entries_fit.Statement.{statement}
+use Rattle.depths.proofs.fits.entries_fit.Tie as tie
+
+abbrev Inv-loop : tie.InvT-loop
+Inv-loop image map m n i₀ i = (i ≤ n) × ((j : ℕ) → j < i → entryFits image m map j ≡ true)
+
+abbrev μ-loop : tie.MeasureT-loop
+μ-loop image map m n i₀ i = n - i
+
+proc-count-requires : tie.Need-proc-count-requires Inv-loop μ-loop
+proc-count-requires c κs = search needs
+
+loop-holds : tie.Need-loop-holds Inv-loop μ-loop
+loop-holds c = (omega arith, below-none _)
+
+entry-of-requires : tie.Need-entry-of-requires Inv-loop μ-loop
+entry-of-requires c κs = (omega (arith, c .before .before .proc-count .ensures .1), c .before .before .before .before .before .pre)
+
+params-of-requires : tie.Need-params-of-requires Inv-loop μ-loop
+params-of-requires c κs = (omega (arith, c .before .before .before .proc-count .ensures .1), c .before .before .before .before .before .before .pre)
+
+mark-at-requires : tie.Need-mark-at-requires Inv-loop μ-loop
+mark-at-requires c κs = search needs
+
+returns : tie.Need-returns Inv-loop μ-loop
+returns c =
+    let a = c .before .before .before .before .before .before .before .before .before .args in
+    let e = c .before .mark-at .ensures ∙ ap (λ (q : ℕ). getD (a .map .now) q 255) (c .before .before .before .entry-of .ensures) in
+    sym (one-fails (procCount (a .m)) (entryFits (a .image .now) (a .m) (a .map .now)) (c .before .before .before .before .before .loop .i)
+    (omega (arith, c .before .before .before .before .before .before .proc-count .ensures .0, c .before .before .before .before .loop-test .taken))
+    (ne-eqb _ _ (λ z. c .if1 .taken (e ∙ z ∙ sym (c .before .before .params-of .ensures)))))
+
+add-i : tie.Need-add-i Inv-loop μ-loop
+add-i c = search needs
+
+loop-less : tie.Need-loop-less Inv-loop μ-loop
+loop-less c = search needs
+
+loop-again : tie.Need-loop-again Inv-loop μ-loop
+loop-again c =
+    let a = c .before .before .before .before .before .before .before .before .before .args in
+    let e = c .before .mark-at .ensures ∙ ap (λ (q : ℕ). getD (a .map .now) q 255) (c .before .before .before .entry-of .ensures) in (
+      omega arith,
+      below-more (λ (j : ℕ). entryFits (a .image .now) (a .m) (a .map .now) j ≡ true) (c .before .before .before .before .before .loop .i) (c .before .before .before .before .before .loop .inv .1)
+          (eq-eqb _ _ (sym e ∙ c .if1 .left ∙ c .before .before .params-of .ensures)),
+    )
+
+returns-2 : tie.Need-returns-2 Inv-loop μ-loop
+returns-2 c =
+    let a = c .before .before .before .before .before .args in
+    sym (at-all (procCount (a .m)) (entryFits (a .image .now) (a .m) (a .map .now)) (λ j l. c .before .loop .inv .1 j (omega (arith, c .before .before .proc-count .ensures .0, c .loop-test .left))))
+
+pub entries-fit-spec : {M : Type 1} → statement M
+entries-fit-spec =
+    tie.close
+    (tie.spec
+    Inv-loop
+    μ-loop
+    proc-count-requires
+    loop-holds
+    entry-of-requires
+    params-of-requires
+    mark-at-requires
+    returns
+    add-i
+    loop-less
+    loop-again
+    returns-2)

@@ -1,0 +1,166 @@
+// The first eight rows of sixteen opcodes: constants, jumps, and the loads and stores of words.
+use actions::Core;
+use actions::Stepped;
+use actions::compute::add_top;
+use actions::compute::put_word;
+use actions::jumps::and_forward;
+use actions::jumps::jump;
+use actions::jumps::nothing;
+use actions::jumps::or_forward;
+use actions::jumps::zero_back;
+use actions::jumps::zero_forward;
+use actions::jumps::zero_word;
+use actions::leaf::back;
+use actions::leaf::base_of;
+use actions::leaf::forward;
+use actions::leaf::operand;
+use actions::leaf::operand_word;
+use actions::leaf::plus;
+use actions::leaf::wide;
+use actions::memory::load;
+use actions::memory::load_top;
+use actions::memory::save;
+use actions::memory::save_below;
+ghost use mathlib.Core.Path.{_≡_};
+ghost use mathlib.Core.List.{List};
+ghost use Prim.Native.Nat.{ℕ, _+_, _≤_, _<_, _/_};
+ghost use lib.ListN.{length, getD};
+ghost use Rattle.mcode.specs.Image.{basesOf};
+ghost use Rattle.mcode.specs.Opcode.{lengths};
+ghost use Rattle.mcode.specs.Step.{Lent};
+ghost use Rattle.actions.specs.Core.{held, result, instruction, operandAt, Stays};
+ghost use Rattle.actions.specs.Table.{Based, Needs, Ready};
+
+// 000 to 017 put 0 to 15.
+pub fn row0(op: u8, r: Core, stack: &mut [u16; 16]) -> Stepped
+    requires { ⌜ (op / 16 ≡ 0) × (r .depth < 16) × (r .pc ≤ 65535) ⌝ }
+    ensures { λ q. ⌜ ((lent : Lent) (b c : ℕ) (store out : List ℕ) → result q (now (stack .exit)) store out ≡ instruction lent op b c (held r (now (stack .entry)) store out)) × Stays r (q .core) ⌝ }
+{
+    put_word(r, stack, wide(op), r.pc + 1)
+}
+
+// 020 and 022 put an operand, 024 to 027 a sum; 030 to 037 jump. The others of the row are not listed.
+pub fn row1(op: u8, r: Core, image: &[u8], table: &[u16; 193], stack: &mut [u16; 16]) -> Stepped
+    requires { ⌜ op / 16 ≡ 1 ⌝ }
+    requires { ⌜ Ready op r (length (now image)) ⌝ }
+    requires { ⌜ (op ≡ 0o27 → operandAt (now image) r 1 < 32) ⌝ }
+    ensures { λ q. ⌜ ((lent : Lent) → Based (now (table .entry)) r (basesOf (lent .program)) → (store out : List ℕ) → result q (now (stack .exit)) store out ≡ instruction lent op (operandAt (now (image .entry)) r 1) (operandAt (now (image .entry)) r 2) (held r (now (stack .entry)) store out)) × Stays r (q .core) ⌝ }
+{
+    match op {
+        0o20 => put_word(r, stack, operand(r, image, 1), r.pc + 2),
+        0o22 => put_word(r, stack, operand_word(r, image), r.pc + 3),
+        0o24 => put_word(r, stack, plus(r.l, operand(r, image, 1)).0, r.pc + 2),
+        0o25 => put_word(r, stack, plus(r.g, operand(r, image, 1)).0, r.pc + 2),
+        0o26 => add_top(r, stack, operand(r, image, 1), r.pc + 2),
+        0o27 => put_word(
+            r,
+            stack,
+            plus(base_of(table, operand(r, image, 1)), operand(r, image, 2)).0,
+            r.pc + 3,
+        ),
+        0o30 => zero_word(r, image, stack, r.pc + 3),
+        0o31 => jump(r, forward(r, operand_word(r, image))),
+        0o32 => zero_forward(r, image, stack, r.pc + 2),
+        0o33 => jump(r, forward(r, operand(r, image, 1))),
+        0o34 => zero_back(r, image, stack, r.pc + 2),
+        0o35 => jump(r, back(r, operand(r, image, 1))),
+        0o36 => or_forward(r, image, stack, r.pc + 2),
+        0o37 => and_forward(r, image, stack, r.pc + 2),
+        _ => nothing(r, r.pc),
+    }
+}
+
+// 040, 044 to 057 load a word from L, 042 from a module's base. In this row and the next three the opcodes that are not listed do
+// what the definition says of them, and no map marks them.
+pub fn row2(
+    op: u8,
+    r: Core,
+    image: &[u8],
+    table: &[u16; 193],
+    stack: &mut [u16; 16],
+    store: &[u16],
+) -> Stepped
+    requires { ⌜ op / 16 ≡ 2 ⌝ }
+    requires { ⌜ Needs 0 1 (getD lengths op 0) r (length (now image)) ⌝ }
+    requires { ⌜ (op ≡ 0o42 → operandAt (now image) r 1 < 32) ⌝ }
+    ensures { λ q. ⌜ ((lent : Lent) → Based (now (table .entry)) r (basesOf (lent .program)) → (out : List ℕ) → result q (now (stack .exit)) (now (store .entry)) out ≡ instruction lent op (operandAt (now (image .entry)) r 1) (operandAt (now (image .entry)) r 2) (held r (now (stack .entry)) (now (store .entry)) out)) × Stays r (q .core) ⌝ }
+{
+    match op {
+        0o40 => load(r, stack, store, plus(r.l, operand(r, image, 1)), r.pc + 2),
+        0o42 => load(
+            r,
+            stack,
+            store,
+            plus(base_of(table, operand(r, image, 1)), operand(r, image, 2)),
+            r.pc + 3,
+        ),
+        _ => load(r, stack, store, plus(r.l, wide(op - 0o40)), r.pc + 1),
+    }
+}
+
+// 060, 064 to 077 store a word from L, 062 from a module's base.
+pub fn row3(
+    op: u8,
+    r: Core,
+    image: &[u8],
+    table: &[u16; 193],
+    stack: &mut [u16; 16],
+    store: &mut [u16],
+) -> Stepped
+    requires { ⌜ op / 16 ≡ 3 ⌝ }
+    requires { ⌜ Needs 1 0 (getD lengths op 0) r (length (now image)) ⌝ }
+    requires { ⌜ (op ≡ 0o62 → operandAt (now image) r 1 < 32) ⌝ }
+    ensures { λ q. ⌜ ((lent : Lent) → Based (now (table .entry)) r (basesOf (lent .program)) → (out : List ℕ) → result q (now (stack .exit)) (now (store .exit)) out ≡ instruction lent op (operandAt (now (image .entry)) r 1) (operandAt (now (image .entry)) r 2) (held r (now (stack .entry)) (now (store .entry)) out)) × Stays r (q .core) ⌝ }
+{
+    match op {
+        0o60 => save(r, stack, store, plus(r.l, operand(r, image, 1)), r.pc + 2),
+        0o62 => save(
+            r,
+            stack,
+            store,
+            plus(base_of(table, operand(r, image, 1)), operand(r, image, 2)),
+            r.pc + 3,
+        ),
+        _ => save(r, stack, store, plus(r.l, wide(op - 0o60)), r.pc + 1),
+    }
+}
+
+// 100, 102 to 117 load a word from G.
+pub fn row4(op: u8, r: Core, image: &[u8], stack: &mut [u16; 16], store: &[u16]) -> Stepped
+    requires { ⌜ op / 16 ≡ 4 ⌝ }
+    requires { ⌜ Needs 0 1 (getD lengths op 0) r (length (now image)) ⌝ }
+    ensures { λ q. ⌜ ((lent : Lent) (numbers : List ℕ) → Based numbers r (basesOf (lent .program)) → (c : ℕ) (out : List ℕ) → result q (now (stack .exit)) (now (store .entry)) out ≡ instruction lent op (operandAt (now (image .entry)) r 1) c (held r (now (stack .entry)) (now (store .entry)) out)) × Stays r (q .core) ⌝ }
+{
+    match op {
+        0o100 => load(r, stack, store, plus(r.g, operand(r, image, 1)), r.pc + 2),
+        _ => load(r, stack, store, plus(r.g, wide(op - 0o100)), r.pc + 1),
+    }
+}
+
+// 120, 122 to 137 store a word from G.
+pub fn row5(op: u8, r: Core, image: &[u8], stack: &mut [u16; 16], store: &mut [u16]) -> Stepped
+    requires { ⌜ op / 16 ≡ 5 ⌝ }
+    requires { ⌜ Needs 1 0 (getD lengths op 0) r (length (now image)) ⌝ }
+    ensures { λ q. ⌜ ((lent : Lent) (numbers : List ℕ) → Based numbers r (basesOf (lent .program)) → (c : ℕ) (out : List ℕ) → result q (now (stack .exit)) (now (store .exit)) out ≡ instruction lent op (operandAt (now (image .entry)) r 1) c (held r (now (stack .entry)) (now (store .entry)) out)) × Stays r (q .core) ⌝ }
+{
+    match op {
+        0o120 => save(r, stack, store, plus(r.g, operand(r, image, 1)), r.pc + 2),
+        _ => save(r, stack, store, plus(r.g, wide(op - 0o120)), r.pc + 1),
+    }
+}
+
+// 140 to 157 load the word at a + 0 to a + 15.
+pub fn row6(op: u8, r: Core, stack: &mut [u16; 16], store: &[u16]) -> Stepped
+    requires { ⌜ (op / 16 ≡ 6) × (0 < r .depth) × (r .depth ≤ 16) × (r .pc ≤ 65535) ⌝ }
+    ensures { λ q. ⌜ ((lent : Lent) (b c : ℕ) (out : List ℕ) → result q (now (stack .exit)) (now (store .entry)) out ≡ instruction lent op b c (held r (now (stack .entry)) (now (store .entry)) out)) × Stays r (q .core) ⌝ }
+{
+    load_top(r, stack, store, wide(op - 0o140), r.pc + 1)
+}
+
+// 160 to 177 store a at c + 0 to c + 15.
+pub fn row7(op: u8, r: Core, stack: &mut [u16; 16], store: &mut [u16]) -> Stepped
+    requires { ⌜ (op / 16 ≡ 7) × (1 < r .depth) × (r .depth ≤ 16) × (r .pc ≤ 65535) ⌝ }
+    ensures { λ q. ⌜ ((lent : Lent) (b c : ℕ) (out : List ℕ) → result q (now (stack .exit)) (now (store .exit)) out ≡ instruction lent op b c (held r (now (stack .entry)) (now (store .entry)) out)) × Stays r (q .core) ⌝ }
+{
+    save_below(r, stack, store, wide(op - 0o160), r.pc + 1)
+}

@@ -8,8 +8,11 @@ use Rattle.mcode.specs.Word.{pick}
 use Rattle.mcode.specs.Image.{basesOf}
 use Rattle.mcode.specs.Machine.{State, state, Outcome, go, halt, position, machine, stopNumber, stopCode}
 use Rattle.mcode.specs.Decode.{Action, decodeOf}
-use Rattle.mcode.specs.Step.{Lent, performOf}
+use Rattle.mcode.specs.Step.{Lent, performOf, computed, goes}
+use Rattle.mcode.specs.declared.Machine.{Machine}
+use Rattle.mcode.specs.declared.Position.{Position}
 use Rattle.mcode.specs.declared.Registers.{Registers}
+use Rattle.mcode.specs.declared.Value.{Value}
 use Rattle.actions.specs.declared.Core.{Core}
 use Rattle.actions.specs.declared.Stepped.{Stepped}
 
@@ -43,6 +46,10 @@ at to d r = record { pc = to; depth = d; start = r .start; unit = r .unit; g = r
 -- an action, and an instruction with its operand bytes
 abbrev pub acted : Lent → Action → ℕ → State → Left
 acted lent a to x = leftBy x (performOf lent a (position to) x)
+
+-- a computed word put as `by` says, or its trap
+abbrev pub replaced : (Position → Machine → ℕ → Machine) → ℕ → Value → State → Left
+replaced by to v x = leftBy x (computed v (λ w. goes x (by (position to) (x .machine) w)))
 
 unfoldable pub instruction : Lent → ℕ → ℕ → ℕ → State → Left
 instruction lent op b c x =

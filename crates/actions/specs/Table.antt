@@ -1,10 +1,9 @@
 -- The numbers of the program as they are lent to a step, and what a step asks of them and of its registers.
 use mathlib.Core.Path.{_≡_}
-use mathlib.Core.Bool.{Bool, true}
 use Prim.Native.Nat.{ℕ, _+_, _*_, _≤_, _<_}
 use mathlib.Core.List.{List}
 use lib.ListN.{getD, length}
-use Rattle.mcode.specs.Image.{moduleOf, procCount}
+use Rattle.mcode.specs.Image.{moduleOf}
 use Rattle.mcode.specs.Opcode.{lengths, takens, lefts}
 use Rattle.mcode.specs.Step.{Lent}
 use Rattle.mcode.specs.declared.Module.{Module}

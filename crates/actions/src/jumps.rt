@@ -11,16 +11,14 @@ use crate::leaf::take_word;
 use crate::leaf::top_of;
 ghost use mathlib.Core.Path.{_≡_};
 ghost use mathlib.Core.List.{List};
-ghost use Prim.Native.Nat.{ℕ, _+_, _-_, _≤_, _<_, _%_, _*_};
-ghost use lib.ListN.{length, getD, set};
-ghost use Rattle.mcode.specs.Word.{wrap, wordOf};
+ghost use Prim.Native.Nat.{ℕ, _+_, _-_, _≤_, _<_};
+ghost use lib.ListN.{length};
+ghost use Rattle.mcode.specs.Word.{wordOf};
 ghost use Rattle.mcode.specs.Depths.{forward as ahead, back as behind};
-ghost use Rattle.mcode.specs.Machine as M;
-ghost use Rattle.mcode.specs.Machine.{position, address};
-ghost use Rattle.mcode.specs.Decode.{sum};
-ghost use Rattle.mcode.specs.Step.{Lent, goes};
+ghost use Rattle.mcode.specs.Machine.{position};
+ghost use Rattle.mcode.specs.Step.{Lent};
 ghost use Rattle.mcode.specs.Decode as Act;
-ghost use Rattle.actions.specs.Core.{held, result, leftBy, acted, operandAt, Stays, at, stepped, shown};
+ghost use Rattle.actions.specs.Core.{held, result, acted, operandAt, Stays};
 
 pub fn jump(r: Core, t: usize) -> Stepped
     ensures { λ q. ⌜ ((lent : Lent) (to : ℕ) (stack store out : List ℕ) → result q stack store out ≡ acted lent (Act.Jump (position t)) to (held r stack store out)) × Stays r (q .core) ⌝ }

@@ -1,18 +1,17 @@
 use crate::Core;
 use crate::Stepped;
 use mcode::Address;
+use mcode::Stop;
+use mcode::stop_code;
+use mcode::stop_number;
 ghost use mathlib.Core.Path.{_≡_};
-ghost use mathlib.Core.List.{List};
-ghost use Prim.Native.Nat.{ℕ, _+_, _-_, _≤_, _<_, _%_, _*_};
+ghost use Prim.Native.Nat.{_+_, _-_, _≤_, _<_, _%_, _*_};
 ghost use lib.ListN.{length, getD, set};
-ghost use Rattle.mcode.specs.Word.{wrap, wordOf};
+ghost use Rattle.mcode.specs.Word.{wordOf};
 ghost use Rattle.mcode.specs.Depths.{forward as ahead, back as behind};
-ghost use Rattle.mcode.specs.Machine as M;
-ghost use Rattle.mcode.specs.Machine.{position, address};
+ghost use Rattle.mcode.specs.Machine.{address, stopNumber, stopCode};
 ghost use Rattle.mcode.specs.Decode.{sum};
-ghost use Rattle.mcode.specs.Step.{Lent, goes};
-ghost use Rattle.mcode.specs.Decode as Act;
-ghost use Rattle.actions.specs.Core.{held, result, leftBy, acted, operandAt, Stays, at, stepped, shown};
+ghost use Rattle.actions.specs.Core.{operandAt, at, stepped};
 
 pub fn wide(x: u8) -> u16
     ensures { λ q. ⌜ (q ≡ x) × (q < 256) ⌝ }
@@ -94,9 +93,10 @@ pub fn third_of(r: Core, stack: &[u16; 16]) -> u16
     stack[d - 3]
 }
 
-// The fields are copied one by one: a copy of the whole struct keeps the compiler from holding each in a register of its own.
-pub fn trapped(r: Core, stop: u32) -> Stepped
-    ensures { λ q. ⌜ q ≡ stepped stop 0 r ⌝ }
+// A stop with its code, the registers as they were. The fields are copied one by one: a copy of the whole struct keeps the
+// compiler from holding each in a register of its own.
+pub fn halted(r: Core, stop: u32, code: u32) -> Stepped
+    ensures { λ q. ⌜ q ≡ stepped stop code r ⌝ }
 {
     let pc = r.pc;
     let depth = r.depth;
@@ -122,9 +122,22 @@ pub fn trapped(r: Core, stop: u32) -> Stepped
     };
     Stepped {
         stop,
-        code: 0,
+        code,
         core: q,
     }
+}
+
+pub fn trapped(r: Core, stop: u32) -> Stepped
+    ensures { λ q. ⌜ q ≡ stepped stop 0 r ⌝ }
+{
+    halted(r, stop, 0)
+}
+
+// The trap of a computed word.
+pub fn faulted(r: Core, stop: Stop) -> Stepped
+    ensures { λ q. ⌜ q ≡ stepped (stopNumber stop) (stopCode stop) r ⌝ }
+{
+    halted(r, stop_number(stop) as u32, stop_code(stop) as u32)
 }
 
 // No stop: the registers at a place of the code and a depth.

@@ -22,6 +22,8 @@ pub struct Stepped {
     pub core: Core,
 }
 
+pub mod bytes;
+pub mod channels;
 pub mod compute;
 pub mod jumps;
 pub mod leaf;

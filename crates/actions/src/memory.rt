@@ -14,16 +14,10 @@ use crate::leaf::trapped;
 use mcode::Address;
 ghost use mathlib.Core.Path.{_≡_};
 ghost use mathlib.Core.List.{List};
-ghost use Prim.Native.Nat.{ℕ, _+_, _-_, _≤_, _<_, _%_, _*_};
-ghost use lib.ListN.{length, getD, set};
-ghost use Rattle.mcode.specs.Word.{wrap, wordOf};
-ghost use Rattle.mcode.specs.Depths.{forward as ahead, back as behind};
-ghost use Rattle.mcode.specs.Machine as M;
-ghost use Rattle.mcode.specs.Machine.{position, address};
-ghost use Rattle.mcode.specs.Decode.{sum};
-ghost use Rattle.mcode.specs.Step.{Lent, goes};
+ghost use Prim.Native.Nat.{ℕ, _≤_, _<_};
+ghost use Rattle.mcode.specs.Step.{Lent};
 ghost use Rattle.mcode.specs.Decode as Act;
-ghost use Rattle.actions.specs.Core.{held, result, leftBy, acted, operandAt, Stays, at, stepped, shown};
+ghost use Rattle.actions.specs.Core.{held, result, acted, Stays};
 
 pub fn load(r: Core, stack: &mut [u16; 16], store: &[u16], a: Address, to: usize) -> Stepped
     requires { ⌜ r .depth < 16 ⌝ }

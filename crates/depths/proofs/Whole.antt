@@ -65,7 +65,7 @@ none-tested image program map = record {
 }
 
 -- a byte in the code of module k
-in-code : (program : Program) (k i : ℕ) → k < program .count → from program k ≤ i → i < to program k → inCode program i ≡ true
+pub in-code : (program : Program) (k i : ℕ) → k < program .count → from program k ≤ i → i < to program k → inCode program i ≡ true
 unfolding inCode
 in-code program k i l h g =
     at-any (program .count) (λ k. and (leb (from program k) i) (ltb i (to program k))) k l

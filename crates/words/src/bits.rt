@@ -4,20 +4,20 @@ ghost use Prim.Native.Nat.{_%_};
 ghost use Rattle.mcode.specs.Word.{shiftLeft, shiftRight, rotateRight, byteOf, withByte};
 
 // 16 or more gives 0.
-pub fn shifted_left(c: u16, a: u16) -> u16
+pub fn shl(c: u16, a: u16) -> u16
     ensures { λ r. ⌜ r ≡ shiftLeft c a ⌝ }
 {
     if a < 16 { c << a } else { 0 }
 }
 
-pub fn shifted_right(c: u16, a: u16) -> u16
+pub fn shr(c: u16, a: u16) -> u16
     ensures { λ r. ⌜ r ≡ shiftRight c a ⌝ }
 {
     if a < 16 { c >> a } else { 0 }
 }
 
 // c rotated right by a modulo 16. By 0 it stays: a shift by 16 is none of u16.
-pub fn rotated(c: u16, a: u16) -> u16
+pub fn rotate(c: u16, a: u16) -> u16
     ensures { λ r. ⌜ r ≡ rotateRight c a ⌝ }
 {
     let k = a % 16;

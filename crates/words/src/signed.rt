@@ -1,4 +1,5 @@
 // Signed arithmetic: words read as i16. A result outside -32,768 to 32,767 is trap 37.
+use crate::truth;
 use mcode::Stop;
 use mcode::Value;
 ghost use mathlib.Core.Path.{_≡_};
@@ -49,19 +50,19 @@ fn wide_of(x: u16) -> i32
     signed_of(x) as i32
 }
 
-pub fn added(c: u16, a: u16) -> Value
+pub fn add(c: u16, a: u16) -> Value
     ensures { λ r. ⌜ r ≡ W.settle (W.signed c +ℤ W.signed a) ⌝ }
 {
     settled(wide_of(c) + wide_of(a))
 }
 
-pub fn subtracted(c: u16, a: u16) -> Value
+pub fn sub(c: u16, a: u16) -> Value
     ensures { λ r. ⌜ r ≡ W.settle (W.signed c -ℤ W.signed a) ⌝ }
 {
     settled(wide_of(c) - wide_of(a))
 }
 
-pub fn multiplied(c: u16, a: u16) -> Value
+pub fn mul(c: u16, a: u16) -> Value
     ensures { λ r. ⌜ r ≡ W.settle (W.signed c *ℤ W.signed a) ⌝ }
 {
     settled(wide_of(c) * wide_of(a))
@@ -76,7 +77,7 @@ fn quotient(c: u16, a: u16) -> Value
 }
 
 // -32,768 / -1 is outside.
-pub fn divided(c: u16, a: u16) -> Value
+pub fn div(c: u16, a: u16) -> Value
     ensures { λ r. ⌜ r ≡ W.divided a (W.settle (quotZ (W.signed c) (W.signed a))) ⌝ }
 {
     if a == 0 {
@@ -94,7 +95,7 @@ pub fn divided(c: u16, a: u16) -> Value
 }
 
 // -32,768 has no opposite of 16 bits.
-pub fn negated(a: u16) -> Value
+pub fn neg(a: u16) -> Value
     ensures { λ r. ⌜ r ≡ W.settle (negℤ (W.signed a)) ⌝ }
 {
     if a == 32768 {
@@ -104,30 +105,36 @@ pub fn negated(a: u16) -> Value
     }
 }
 
-pub fn absolute(a: u16) -> Value
+pub fn abs(a: u16) -> Value
     ensures { λ r. ⌜ r ≡ W.settle (pos (natAbs (W.signed a))) ⌝ }
 {
-    if a < 32768 { Value::Is(a) } else { negated(a) }
+    if a < 32768 { Value::Is(a) } else { neg(a) }
 }
 
-pub fn less(c: u16, a: u16) -> bool
-    ensures { λ r. ⌜ r ≡ ltZ (W.signed c) (W.signed a) ⌝ }
+pub fn less(c: u16, a: u16) -> u16
+    ensures { λ r. ⌜ r ≡ W.truth (ltZ (W.signed c) (W.signed a)) ⌝ }
 {
-    signed_of(c) < signed_of(a)
+    truth(signed_of(c) < signed_of(a))
 }
 
-pub fn at_most(c: u16, a: u16) -> bool
+fn is_at_most(c: u16, a: u16) -> bool
     ensures { λ r. ⌜ r ≡ leZ (W.signed c) (W.signed a) ⌝ }
 {
     signed_of(c) <= signed_of(a)
+}
+
+pub fn at_most(c: u16, a: u16) -> u16
+    ensures { λ r. ⌜ r ≡ W.truth (leZ (W.signed c) (W.signed a)) ⌝ }
+{
+    truth(is_at_most(c, a))
 }
 
 // e stays where it is from low to high.
 pub fn within(e: u16, low: u16, high: u16) -> Value
     ensures { λ r. ⌜ r ≡ W.checked e (W.and (leZ (W.signed low) (W.signed e)) (leZ (W.signed e) (W.signed high))) ⌝ }
 {
-    if at_most(low, e) {
-        if at_most(e, high) {
+    if is_at_most(low, e) {
+        if is_at_most(e, high) {
             return Value::Is(e);
         }
     }

@@ -7,26 +7,26 @@ ghost use lib.Dec.{leb};
 ghost use Rattle.mcode.specs.Word.{wrap, and, divided, checked};
 ghost use Rattle.mcode.specs.declared.Value.the-variants.{Is};
 
-pub fn sum(c: u16, a: u16) -> u16
+pub fn add(c: u16, a: u16) -> u16
     ensures { λ r. ⌜ r ≡ wrap (c + a) ⌝ }
 {
     std::num::wrapping_add_u16(c, a)
 }
 
-pub fn difference(c: u16, a: u16) -> u16
+pub fn sub(c: u16, a: u16) -> u16
     ensures { λ r. ⌜ r ≡ wrap (c + (65536 - a)) ⌝ }
 {
     std::num::wrapping_sub_u16(c, a)
 }
 
 // There is no wrapping product of u16: the product of two words fits 32 bits.
-pub fn product(c: u16, a: u16) -> u16
+pub fn mul(c: u16, a: u16) -> u16
     ensures { λ r. ⌜ r ≡ wrap (c * a) ⌝ }
 {
     ((c as u32) * (a as u32) % 65536) as u16
 }
 
-pub fn quotient(c: u16, a: u16) -> Value
+pub fn div(c: u16, a: u16) -> Value
     ensures { λ r. ⌜ r ≡ divided a (Is (c / a)) ⌝ }
 {
     if a == 0 {
@@ -36,7 +36,7 @@ pub fn quotient(c: u16, a: u16) -> Value
     }
 }
 
-pub fn remainder(c: u16, a: u16) -> Value
+pub fn rem(c: u16, a: u16) -> Value
     ensures { λ r. ⌜ r ≡ divided a (Is (c % a)) ⌝ }
 {
     if a == 0 {

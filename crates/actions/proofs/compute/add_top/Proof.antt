@@ -1,15 +1,8 @@
 use Rattle.mcode.specs.Step.{performOf}
-use Rattle.actions.proofs.Laws.{stays-at, stays-as}
-use native.Mathlib.Omega.{arith}
-use borrow.Author.Tests.{ne-eqb, lt-ltb, le-ltb, le-leb, lt-leb, eq-eqb}
+use Rattle.actions.proofs.Laws.{stays-at}
 use borrow.Author.Needs.{needs}
 use Rattle.actions.proofs.compute.add_top.Statement.{statement}
 use Rattle.actions.proofs.compute.add_top.Tie as tie
-use Rattle.actions.proofs.compute.add_top.Reads as reads
-use Rattle.actions.proofs.compute.add_top.Lts as lts
-use Rattle.actions.proofs.leaf.replace_one.Reads as replace-one-reads
-use Rattle.actions.proofs.leaf.top_of.Reads as top-of-reads
-use Rattle.std.proofs.num.wrapping_add_u16.Reads as wrapping-add-u16-reads
 
 top-of-requires : tie.Need-top-of-requires
 top-of-requires c κs = search needs

@@ -1,13 +1,7 @@
-use Rattle.mcode.specs.Step.{performOf}
-use Rattle.actions.proofs.Laws.{stays-at, stays-as}
-use native.Mathlib.Omega.{arith}
-use borrow.Author.Tests.{ne-eqb, lt-ltb, le-ltb, le-leb, lt-leb, eq-eqb}
+use Rattle.actions.proofs.Laws.{stays-at}
 use borrow.Author.Needs.{needs}
 use Rattle.actions.proofs.compute.replace_two.Statement.{statement}
 use Rattle.actions.proofs.compute.replace_two.Tie as tie
-use Rattle.actions.proofs.compute.replace_two.Reads as reads
-use Rattle.actions.proofs.compute.replace_two.Lts as lts
-use Rattle.actions.proofs.leaf.gone.Reads as gone-reads
 
 sub-stack : tie.Need-sub-stack
 sub-stack c = search needs

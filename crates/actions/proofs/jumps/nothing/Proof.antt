@@ -1,13 +1,8 @@
 use Rattle.mcode.specs.Step.{performOf}
-use Rattle.actions.proofs.Laws.{stays-at, stays-as}
-use native.Mathlib.Omega.{arith}
-use borrow.Author.Tests.{ne-eqb, lt-ltb, le-ltb, le-leb, lt-leb, eq-eqb}
+use Rattle.actions.proofs.Laws.{stays-at}
 use borrow.Author.Needs.{needs}
 use Rattle.actions.proofs.jumps.nothing.Statement.{statement}
 use Rattle.actions.proofs.jumps.nothing.Tie as tie
-use Rattle.actions.proofs.jumps.nothing.Reads as reads
-use Rattle.actions.proofs.jumps.nothing.Lts as lts
-use Rattle.actions.proofs.leaf.gone.Reads as gone-reads
 
 gone-requires : tie.Need-gone-requires
 gone-requires c κs = search needs

@@ -1,16 +1,9 @@
 use Rattle.mcode.specs.Step.{performOf}
-use Rattle.actions.proofs.Laws.{stays-at, stays-as}
-use native.Mathlib.Omega.{arith}
-use borrow.Author.Tests.{ne-eqb, lt-ltb, le-ltb, le-leb, lt-leb, eq-eqb}
+use Rattle.actions.proofs.Laws.{stays-at}
+use borrow.Author.Tests.{ne-eqb, eq-eqb}
 use borrow.Author.Needs.{needs}
 use Rattle.actions.proofs.jumps.zero_back.Statement.{statement}
 use Rattle.actions.proofs.jumps.zero_back.Tie as tie
-use Rattle.actions.proofs.jumps.zero_back.Reads as reads
-use Rattle.actions.proofs.jumps.zero_back.Lts as lts
-use Rattle.actions.proofs.leaf.back.Reads as back-reads
-use Rattle.actions.proofs.leaf.operand.Reads as operand-reads
-use Rattle.actions.proofs.leaf.take_word.Reads as take-word-reads
-use Rattle.actions.proofs.leaf.top_of.Reads as top-of-reads
 
 top-of-requires : tie.Need-top-of-requires
 top-of-requires c κs = search needs

@@ -1,14 +1,9 @@
 use Rattle.mcode.specs.Step.{performOf}
-use Rattle.actions.proofs.Laws.{stays-at, stays-as}
-use native.Mathlib.Omega.{arith}
-use borrow.Author.Tests.{ne-eqb, lt-ltb, le-ltb, le-leb, lt-leb, eq-eqb}
+use Rattle.actions.proofs.Laws.{stays-as}
+use borrow.Author.Tests.{lt-ltb, le-ltb}
 use borrow.Author.Needs.{needs}
 use Rattle.actions.proofs.memory.load.Statement.{statement}
 use Rattle.actions.proofs.memory.load.Tie as tie
-use Rattle.actions.proofs.memory.load.Reads as reads
-use Rattle.actions.proofs.memory.load.Lts as lts
-use Rattle.actions.proofs.compute.put_word.Reads as put-word-reads
-use Rattle.actions.proofs.leaf.trapped.Reads as trapped-reads
 
 cast-i : tie.Need-cast-i
 cast-i c = search needs

@@ -1,17 +1,9 @@
 use Rattle.mcode.specs.Step.{performOf}
-use Rattle.actions.proofs.Laws.{stays-at, stays-as}
-use native.Mathlib.Omega.{arith}
-use borrow.Author.Tests.{ne-eqb, lt-ltb, le-ltb, le-leb, lt-leb, eq-eqb}
+use Rattle.actions.proofs.Laws.{stays-as}
+use borrow.Author.Tests.{lt-ltb, le-ltb}
 use borrow.Author.Needs.{needs}
 use Rattle.actions.proofs.memory.load_indexed.Statement.{statement}
 use Rattle.actions.proofs.memory.load_indexed.Tie as tie
-use Rattle.actions.proofs.memory.load_indexed.Reads as reads
-use Rattle.actions.proofs.memory.load_indexed.Lts as lts
-use Rattle.actions.proofs.compute.replace_two.Reads as replace-two-reads
-use Rattle.actions.proofs.leaf.second_of.Reads as second-of-reads
-use Rattle.actions.proofs.leaf.top_of.Reads as top-of-reads
-use Rattle.actions.proofs.leaf.trapped.Reads as trapped-reads
-use Rattle.std.proofs.num.wrapping_add_u16.Reads as wrapping-add-u16-reads
 
 second-of-requires : tie.Need-second-of-requires
 second-of-requires c κs = search needs

@@ -1,15 +1,9 @@
 use Rattle.mcode.specs.Step.{performOf}
 use Rattle.actions.proofs.Laws.{stays-at, stays-as}
-use native.Mathlib.Omega.{arith}
-use borrow.Author.Tests.{ne-eqb, lt-ltb, le-ltb, le-leb, lt-leb, eq-eqb}
+use borrow.Author.Tests.{lt-ltb, le-ltb}
 use borrow.Author.Needs.{needs}
 use Rattle.actions.proofs.memory.save.Statement.{statement}
 use Rattle.actions.proofs.memory.save.Tie as tie
-use Rattle.actions.proofs.memory.save.Reads as reads
-use Rattle.actions.proofs.memory.save.Lts as lts
-use Rattle.actions.proofs.leaf.take_word.Reads as take-word-reads
-use Rattle.actions.proofs.leaf.top_of.Reads as top-of-reads
-use Rattle.actions.proofs.leaf.trapped.Reads as trapped-reads
 
 cast-i : tie.Need-cast-i
 cast-i c = search needs

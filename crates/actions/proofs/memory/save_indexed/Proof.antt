@@ -1,18 +1,9 @@
 use Rattle.mcode.specs.Step.{performOf}
 use Rattle.actions.proofs.Laws.{stays-at, stays-as}
-use native.Mathlib.Omega.{arith}
-use borrow.Author.Tests.{ne-eqb, lt-ltb, le-ltb, le-leb, lt-leb, eq-eqb}
+use borrow.Author.Tests.{lt-ltb, le-ltb}
 use borrow.Author.Needs.{needs}
 use Rattle.actions.proofs.memory.save_indexed.Statement.{statement}
 use Rattle.actions.proofs.memory.save_indexed.Tie as tie
-use Rattle.actions.proofs.memory.save_indexed.Reads as reads
-use Rattle.actions.proofs.memory.save_indexed.Lts as lts
-use Rattle.actions.proofs.leaf.second_of.Reads as second-of-reads
-use Rattle.actions.proofs.leaf.take_three.Reads as take-three-reads
-use Rattle.actions.proofs.leaf.third_of.Reads as third-of-reads
-use Rattle.actions.proofs.leaf.top_of.Reads as top-of-reads
-use Rattle.actions.proofs.leaf.trapped.Reads as trapped-reads
-use Rattle.std.proofs.num.wrapping_add_u16.Reads as wrapping-add-u16-reads
 
 third-of-requires : tie.Need-third-of-requires
 third-of-requires c κs = search needs

@@ -1,0 +1,31 @@
+-- The bases of the lent numbers are the definition's, and where the registers stay anchored. Assumes nothing.
+use mathlib.Core.Path.{_≡_, refl, sym, ap, _∙_}
+use mathlib.Core.List.{List}
+use Prim.Native.Nat.{ℕ, _+_, _*_, _<_}
+use lib.ListN.{getD, List·getD-map}
+use Rattle.mcode.specs.Image.{basesOf, noModule}
+use Rattle.mcode.specs.declared.Module.{Module}
+use Rattle.mcode.specs.declared.Program.{Program}
+use Rattle.actions.specs.declared.Core.{Core}
+use Rattle.actions.specs.declared.Stepped.{Stepped}
+use Rattle.actions.specs.Core.{Stays, stepped}
+use Rattle.actions.specs.Table.{Tabled, Anchored, Based}
+use Rattle.control.specs.Frames.{inFrame, inModule}
+
+pub base-in : {table : List ℕ} {program : Program} → Tabled table program → (k : ℕ) → k < 32 → getD (basesOf program) k 0 ≡ getD table (6 * k + 4) 0
+base-in {table} {program} t k h = List·getD-map (λ (m : Module). m .base) (program .modules) k noModule ∙ ap (λ (m : Module). m .base) (t .modules k h)
+
+pub based : {table : List ℕ} {program : Program} {r : Core} → Tabled table program → Anchored table r → Based table r (basesOf program)
+based {table} {program} {r} t a = record { own = base-in t (r .unit) (a .few) ∙ sym (a .g); named = base-in t }
+
+pub anchored-on : {table : List ℕ} {r q : Core} → Anchored table r → Stays r q → Anchored table q
+anchored-on {table} {r} {q} a s = record { few = rw (s .unit) (a .few); start = rw (s .unit, s .start) (a .start); g = rw (s .unit, s .g) (a .g) }
+
+pub anchored-in : (table : List ℕ) (k to l s : ℕ) (r : Core) (q : Stepped) → k < 32 → q ≡ stepped 0 0 (inModule table k to l s r) → Anchored table (q .core)
+anchored-in table k to l s r q h e = rw e (record { few = h; start = refl; g = refl })
+
+pub anchored-as : (table : List ℕ) (n : ℕ) (r : Core) (q : Stepped) → Anchored table r → q ≡ stepped n 0 r → Anchored table (q .core)
+anchored-as table n r q a e = rw e a
+
+pub stays-framed : (to d l s : ℕ) (r : Core) (q : Stepped) → q ≡ stepped 0 0 (inFrame to d l s r) → Stays r (q .core)
+stays-framed to d l s r q e = rw e (record { start = refl; unit = refl; g = refl })

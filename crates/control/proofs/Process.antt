@@ -1,0 +1,108 @@
+-- Laws of processes in the store: their tests, and their words one by one. Assumes nothing.
+use mathlib.Core.Path.{_≡_, refl, ap, _∙_}
+use mathlib.Core.Bool.{Bool, true, false}
+use mathlib.Core.List.{List, [], _∷_}
+use Prim.Native.Nat.{ℕ, zero, suc, _+_, _-_, _<_, _≤_}
+use native.Mathlib.Omega.{arith}
+use lib.Dec.{ltb, leb}
+use lib.ListN.{length, getD, set, replicate}
+use borrow.Author.Tests.{leb-true, ltb-true}
+use Rattle.mcode.specs.Word.{and}
+use Rattle.mcode.specs.Machine.{position}
+use Rattle.mcode.specs.Step.{Lent, Process, processAt, isProcess, standing, unitBased, saved, restored, written, savedStore, restoredMachine, switched}
+use Rattle.mcode.proofs.Tests.{and-both}
+use Rattle.actions.specs.declared.Core.{Core}
+use Rattle.actions.specs.declared.Stepped.{Stepped}
+use Rattle.actions.specs.Core.{held, leftBy, result, stepped}
+use Rattle.actions.specs.Table.{Anchored, Lends}
+use Rattle.control.specs.Table.{firstBased, standsIn}
+use Rattle.control.specs.Transfer.{sized, resumed}
+use Rattle.control.proofs.Laws.{based}
+use Rattle.control.proofs.Find.{find-stands, find}
+
+-- what the tests say
+pub record Sized (w q : ℕ) (x : Process) : Type 0 where
+  pub whole : q + 8 ≤ w
+  pub margin : 24 ≤ x .v
+  pub some : 1 ≤ x .s
+  pub inside : x .s ≤ w
+  pub few : x .k ≤ 16
+  pub below : x .k < x .s
+
+pub sizes : (w q : ℕ) (x : Process) → sized w q x ≡ true → Sized w q x
+unfolding sized
+sizes w q x e =
+    let a = and-both (leb (q + 8) w) _ e in
+    let b = and-both (and (leb 24 (x .v)) (leb (x .v) w)) _ (a .1) in
+    let c = and-both (and (leb 1 (x .s)) (leb (x .s) w)) _ (b .1) in
+    let d = and-both (and (leb (x .k) 16) (ltb (x .k) (x .s))) _ (c .1) in
+    let v = and-both (leb 24 (x .v)) (leb (x .v) w) (b .0) in
+    let s = and-both (leb 1 (x .s)) (leb (x .s) w) (c .0) in
+    let k = and-both (leb (x .k) 16) (ltb (x .k) (x .s)) (d .0) in
+    record {
+      whole = leb-true (q + 8) w (a .0);
+      margin = leb-true 24 (x .v) (v .0);
+      some = leb-true 1 (x .s) (s .0);
+      inside = leb-true (x .s) w (s .1);
+      few = leb-true (x .k) 16 (k .0);
+      below = ltb-true (x .k) (x .s) (k .1);
+    }
+
+regroup : (a b c d e s : Bool) → and a (and b (and c (and d (and e s)))) ≡ and (and a (and b (and c (and d e)))) s
+regroup false b c d e s = refl
+regroup true false c d e s = refl
+regroup true true false d e s = refl
+regroup true true true false e s = refl
+regroup true true true true e s = refl
+
+-- the tests by the store, then by the lent numbers and marks
+pub process-in : {bytes table marks words : List ℕ} {lent : Lent} → Lends bytes table marks words lent
+    → (w q : ℕ) (x : Process) → isProcess lent w q x ≡ and (sized w q x) (standsIn table marks (firstBased table (x .g)) (x .pc) (x .k))
+unfolding isProcess sized
+process-in {lent} h w q x =
+    regroup (leb (q + 8) w) (and (leb 24 (x .v)) (leb (x .v) w)) (and (leb 1 (x .s)) (leb (x .s) w)) (and (leb (x .k) 16) (ltb (x .k) (x .s))) (leb (x .s - 1 - x .k) (x .v - 24)) (standing lent (unitBased (lent .program) (x .g)) (x .pc) (x .k))
+    ∙ ap (λ (t : Bool). and (sized w q x) t) (find-stands h (x .g) (x .pc) (x .k))
+
+-- one word more
+pub restored-on : (store : List ℕ) (n a : ℕ) (stack : List ℕ) → 0 < n → restored store n a stack ≡ restored store (n - 1) (a + 1) (set stack (n - 1) (getD store a 0))
+unfolding restored
+restored-on store zero a stack l = elim (let z : ⊥ = omega arith in z) [ ]
+restored-on store (suc n) a stack l = let q : suc n - 1 ≡ n = omega arith in rw q refl
+
+pub saved-on : (stack : List ℕ) (n s : ℕ) (store : List ℕ) → 0 < n → saved stack n s store ≡ saved stack (n - 1) (s + 1) (set store s (getD stack (n - 1) 0))
+unfolding saved
+saved-on stack zero s store l = elim (let z : ⊥ = omega arith in z) [ ]
+saved-on stack (suc n) s store l = let q : suc n - 1 ≡ n = omega arith in rw q refl
+
+-- none left
+pub restored-all : (store : List ℕ) (n a : ℕ) (stack : List ℕ) → n ≤ 0 → restored store n a stack ≡ stack
+unfolding restored
+restored-all store n a stack l = let q : n ≡ zero = omega arith in rw q refl
+
+pub saved-all : (stack : List ℕ) (n s : ℕ) (store : List ℕ) → n ≤ 0 → saved stack n s store ≡ store
+unfolding saved
+saved-all stack n s store l = let q : n ≡ zero = omega arith in rw q refl
+
+pub written-six : (g l at m s v p : ℕ) (store : List ℕ)
+    → written (g ∷ l ∷ at ∷ m ∷ s ∷ v ∷ []) p store ≡ set (set (set (set (set (set store p g) (p + 1) l) (p + 2) at) (p + 3) m) (p + 4) s) (p + 5) v
+unfolding written
+written-six g l at m s v p store =
+    let b : p + 1 + 1 ≡ p + 2 = omega arith in
+    let c : p + 2 + 1 ≡ p + 3 = omega arith in
+    let d : p + 3 + 1 ≡ p + 4 = omega arith in
+    let e : p + 4 + 1 ≡ p + 5 = omega arith in
+    rw (b, c, d, e)
+
+pub anchored-resumed : (table : List ℕ) (k b p : ℕ) (x : Process) (r : Core) (q : Stepped) → k < 32 → q ≡ stepped 0 0 (resumed table k b p x r) → Anchored table (q .core)
+anchored-resumed table k b p x r q h e = rw e (record { few = h; start = refl; g = refl })
+
+-- a transfer to a process that passes the tests
+pub switched-in : {bytes table marks words : List ℕ} {lent : Lent} → Lends bytes table marks words lent → (r : Core) → Anchored table r
+    → (b to c q : ℕ) (stack store out : List ℕ) → sized (length store) q (processAt store q) ≡ true
+    → standsIn table marks (firstBased table (processAt store q .g)) (processAt store q .pc) (processAt store q .k) ≡ true
+    → leftBy (held r stack store out) (switched lent b (position to) c q (held r stack store out))
+    ≡ result (stepped 0 0 (resumed table (firstBased table (processAt store q .g)) b q (processAt store q) r))
+    (restored store (processAt store q .k) (processAt store q .s - 1 - processAt store q .k) (replicate 16 0))
+    (savedStore (r .g .0) (position to) c (held r stack store out) (r .depth - 2)) out
+unfolding switched restoredMachine
+switched-in h r a b to c q stack store out s e = rw (process-in h (length store) q (processAt store q), s, e, find h _ _ _ e, based (h .tabled) a .own)

@@ -1,0 +1,101 @@
+use Rattle.mcode.specs.Step.{performOf, call}
+use Rattle.actions.proofs.Laws.{stays-as}
+use Rattle.control.proofs.Laws.{stays-framed}
+use native.Mathlib.Omega.{arith}
+use borrow.Author.Tests.{ne-eqb, lt-ltb, le-ltb, le-leb, lt-leb, eq-eqb}
+use borrow.Author.Needs.{needs}
+use Rattle.control.proofs.calls.call_linked.Statement.{statement}
+use Rattle.control.proofs.calls.call_linked.Tie as tie
+use Rattle.control.proofs.calls.call_linked.Reads as reads
+use Rattle.control.proofs.calls.call_linked.Lts as lts
+use Rattle.actions.proofs.leaf.top_of.Reads as top-of-reads
+use Rattle.actions.proofs.leaf.trapped.Reads as trapped-reads
+use Rattle.control.proofs.calls.write_frame.Reads as write-frame-reads
+use Rattle.control.proofs.frames.framed.Reads as framed-reads
+use Rattle.control.proofs.table.entry_of.Reads as entry-of-reads
+
+cast-s : tie.Need-cast-s
+cast-s c = search needs
+
+cast-h : tie.Need-cast-h
+cast-h c = search needs
+
+add-if1 : tie.Need-add-if1
+add-if1 c = search needs
+
+trapped-requires : tie.Need-trapped-requires
+trapped-requires c κs = search needs
+
+returns : tie.Need-returns
+unfolding performOf call
+returns c = ((λ lent marks words h out. rw (lt-ltb _ _ (c .before .if1 .taken), c .trapped .ensures)), stays-as _ _ _ _ (c .trapped .ensures))
+
+cast-k : tie.Need-cast-k
+cast-k c = search needs
+
+entry-of-requires : tie.Need-entry-of-requires
+entry-of-requires c κs = search needs
+
+cast-entry : tie.Need-cast-entry
+cast-entry c = search needs
+
+top-of-requires : tie.Need-top-of-requires
+top-of-requires c κs = search needs
+
+sub-stack : tie.Need-sub-stack
+sub-stack c = search needs
+
+mul-stack : tie.Need-mul-stack
+mul-stack c = search needs
+
+element-write-stack : tie.Need-element-write-stack
+element-write-stack c = search needs
+
+cast-write-frame : tie.Need-cast-write-frame
+cast-write-frame c = search needs
+
+write-frame-requires : tie.Need-write-frame-requires
+write-frame-requires c κs = search needs
+
+sub-framed : tie.Need-sub-framed
+sub-framed c = search needs
+
+add-framed : tie.Need-add-framed
+add-framed c = search needs
+
+framed-requires : tie.Need-framed-requires
+framed-requires c κs = search needs
+
+same-length : tie.Need-same-length
+same-length c = search needs
+
+returns-2 : tie.Need-returns-2
+unfolding performOf call
+returns-2 c = (
+  (λ lent marks words h out. rw (le-ltb _ _ (c .before .before .before .before .before .before .before .before .before .if1 .left), h .image, h .tabled .modules (c .before .before .before .before .before .before .before .before .before .before .before .before .before .before .args .r .unit) (omega (arith, c .before .before .before .before .before .before .before .before .before .before .before .before .before .before .pre .0 .few, c .before .before .before .before .before .before .before .before .before .before .before .before .before .before .pre .1 .0 .loaded)), ← c .before .before .before .before .before .before .before .entry-of .ensures, ← c .before .before .before .before .before .top-of .ensures, c .framed .ensures, c .before .before .before .write-frame .ensures)),
+  stays-framed _ _ _ _ (c .before .before .before .before .before .before .before .before .before .before .before .before .before .before .args .r) _ (c .framed .ensures),
+)
+
+pub call-linked-spec : {M : Type 1} → statement M
+call-linked-spec =
+    tie.close
+    (tie.spec
+    cast-s
+    cast-h
+    add-if1
+    trapped-requires
+    returns
+    cast-k
+    entry-of-requires
+    cast-entry
+    top-of-requires
+    sub-stack
+    mul-stack
+    element-write-stack
+    cast-write-frame
+    write-frame-requires
+    sub-framed
+    add-framed
+    framed-requires
+    same-length
+    returns-2)

@@ -1,0 +1,63 @@
+use mathlib.Core.Path.{_≡_, refl, sym, _∙_}
+use Rattle.mcode.specs.Depths.{marked}
+use native.Mathlib.Omega.{arith}
+use borrow.Author.Tests.{ne-eqb, lt-ltb, le-ltb, le-leb, lt-leb, eq-eqb}
+use borrow.Author.Needs.{needs}
+use Rattle.control.proofs.table.stands.Statement.{statement}
+use Rattle.control.proofs.table.stands.Tie as tie
+use Rattle.control.proofs.table.stands.Reads as reads
+use Rattle.control.proofs.table.stands.Lts as lts
+use Rattle.control.proofs.table.byte_in.Reads as byte-in-reads
+use Rattle.control.proofs.table.count_of.Reads as count-of-reads
+use Rattle.control.proofs.table.number.Reads as number-reads
+
+count-of-requires : tie.Need-count-of-requires
+count-of-requires c κs = search needs
+
+cast-if1 : tie.Need-cast-if1
+cast-if1 c = search needs
+
+returns : tie.Need-returns
+returns c = rw (← c .before .count-of .ensures, le-ltb _ _ (c .if1 .taken)) refl
+
+number-requires : tie.Need-number-requires
+number-requires c κs = search needs
+
+returns-2 : tie.Need-returns-2
+unfolding marked
+returns-2 c = rw (← c .before .before .before .count-of .ensures, lt-ltb _ _ (c .before .before .if1 .left), ← c .before .number .ensures, le-ltb _ _ (c .if2 .taken)) refl
+
+number-requires-2 : tie.Need-number-requires-2
+number-requires-2 c κs = search needs
+
+cast-i : tie.Need-cast-i
+cast-i c = search needs
+
+add-i : tie.Need-add-i
+add-i c = search needs
+
+byte-in-requires : tie.Need-byte-in-requires
+byte-in-requires c κs = let m = c .before .before .before .before .before .before .pre .0 .marks _ (rw (c .before .before .before .before .count-of .ensures) at (c .before .before .before .if1 .left)) in omega (arith, m, c .before .before .number .ensures, c .number2 .ensures, c .before .if2 .left)
+
+cast-result : tie.Need-cast-result
+cast-result c = search needs
+
+returns-3 : tie.Need-returns-3
+unfolding marked
+returns-3 c = rw (← c .before .before .before .before .before .count-of .ensures, lt-ltb _ _ (c .before .before .before .before .if1 .left), ← c .before .before .before .number .ensures, lt-ltb _ _ (c .before .before .if2 .left), le-leb _ _ (c .before .before .before .before .before .before .before .pre .1), ← c .before .number2 .ensures, ← c .byte-in .ensures .0) refl
+
+pub stands-spec : {M : Type 1} → statement M
+stands-spec =
+    tie.close
+    (tie.spec
+    count-of-requires
+    cast-if1
+    returns
+    number-requires
+    returns-2
+    number-requires-2
+    cast-i
+    add-i
+    byte-in-requires
+    cast-result
+    returns-3)

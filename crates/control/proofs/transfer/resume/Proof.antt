@@ -1,0 +1,113 @@
+use mathlib.Core.Path.{refl}
+use Rattle.control.proofs.Process.{sizes}
+use native.Mathlib.Omega.{arith}
+use borrow.Author.Tests.{ne-eqb, lt-ltb, le-ltb, le-leb, lt-leb, eq-eqb}
+use borrow.Author.Needs.{needs}
+use Rattle.control.proofs.transfer.resume.Statement.{statement}
+use Rattle.control.proofs.transfer.resume.Tie as tie
+use Rattle.control.proofs.transfer.resume.Reads as reads
+use Rattle.control.proofs.transfer.resume.Lts as lts
+use Rattle.control.proofs.table.number.Reads as number-reads
+use Rattle.control.proofs.transfer.mask_of.Reads as mask-of-reads
+use Rattle.control.proofs.transfer.word_at.Reads as word-at-reads
+
+add-word-at : tie.Need-add-word-at
+add-word-at c = search needs
+
+word-at-requires : tie.Need-word-at-requires
+word-at-requires c κs = let z = sizes _ _ _ (c .before .pre .1) in omega (arith, z .whole)
+
+cast-pc : tie.Need-cast-pc
+cast-pc c = search needs
+
+add-word-at-2 : tie.Need-add-word-at-2
+add-word-at-2 c = search needs
+
+word-at-requires-2 : tie.Need-word-at-requires-2
+word-at-requires-2 c κs = let z = sizes _ _ _ (c .before .before .pre .1) in omega (arith, z .whole)
+
+cast-word-at : tie.Need-cast-word-at
+cast-word-at c = search needs
+
+sub-word-at : tie.Need-sub-word-at
+sub-word-at c = let z = sizes _ _ _ (c .before .before .before .pre .1) in omega (arith, z .some, c .word-at2 .ensures)
+
+word-at-requires-3 : tie.Need-word-at-requires-3
+word-at-requires-3 c κs = let z = sizes _ _ _ (c .before .before .before .pre .1) in omega (arith, z .some, z .inside, c .word-at2 .ensures)
+
+cast-depth : tie.Need-cast-depth
+cast-depth c = search needs
+
+number-requires : tie.Need-number-requires
+number-requires c κs = search needs
+
+cast-start : tie.Need-cast-start
+cast-start c = search needs
+
+cast-unit : tie.Need-cast-unit
+cast-unit c = search needs
+
+number-requires-2 : tie.Need-number-requires-2
+number-requires-2 c κs = search needs
+
+add-word-at-3 : tie.Need-add-word-at-3
+add-word-at-3 c = search needs
+
+word-at-requires-4 : tie.Need-word-at-requires-4
+word-at-requires-4 c κs = let z = sizes _ _ _ (c .before .before .before .before .before .before .pre .1) in omega (arith, z .whole)
+
+sub-t24 : tie.Need-sub-t24
+sub-t24 c = let z = sizes _ _ _ (c .before .before .before .before .before .before .before .pre .1) in omega (arith, z .some, c .before .before .before .before .word-at2 .ensures)
+
+sub-t27 : tie.Need-sub-t27
+sub-t27 c = let z = sizes _ _ _ (c .before .before .before .before .before .before .before .pre .1) in omega (arith, rw (← c .before .before .before .before .word-at2 .ensures, ← c .before .before .before .word-at3 .ensures) at (z .below))
+
+add-word-at-4 : tie.Need-add-word-at-4
+add-word-at-4 c = search needs
+
+word-at-requires-5 : tie.Need-word-at-requires-5
+word-at-requires-5 c κs = let z = sizes _ _ _ (c .before .before .before .before .before .before .before .pre .1) in omega (arith, z .whole)
+
+sub-t27-2 : tie.Need-sub-t27-2
+sub-t27-2 c = let z = sizes _ _ _ (c .before .before .before .before .before .before .before .before .pre .1) in omega (arith, z .margin, c .word-at5 .ensures)
+
+add-word-at-5 : tie.Need-add-word-at-5
+add-word-at-5 c = search needs
+
+word-at-requires-6 : tie.Need-word-at-requires-6
+word-at-requires-6 c κs = let z = sizes _ _ _ (c .before .before .before .before .before .before .before .before .pre .1) in omega (arith, z .whole)
+
+mask-of-requires : tie.Need-mask-of-requires
+mask-of-requires c κs = search needs
+
+returns : tie.Need-returns
+returns c = rw (← c .before .before .before .before .before .before .before .before .word-at .ensures, ← c .before .before .before .before .before .before .before .word-at2 .ensures, ← c .before .before .before .before .before .before .word-at3 .ensures, ← c .before .before .before .word-at4 .ensures, ← c .before .before .word-at5 .ensures, ← c .before .word-at6 .ensures, ← c .before .before .before .before .before .number .ensures, ← c .before .before .before .before .number2 .ensures, ← c .mask-of .ensures) refl
+
+pub resume-spec : {M : Type 1} → statement M
+resume-spec =
+    tie.close
+    (tie.spec
+    add-word-at
+    word-at-requires
+    cast-pc
+    add-word-at-2
+    word-at-requires-2
+    cast-word-at
+    sub-word-at
+    word-at-requires-3
+    cast-depth
+    number-requires
+    cast-start
+    cast-unit
+    number-requires-2
+    add-word-at-3
+    word-at-requires-4
+    sub-t24
+    sub-t27
+    add-word-at-4
+    word-at-requires-5
+    sub-t27-2
+    add-word-at-5
+    word-at-requires-6
+    mask-of-requires
+    returns)

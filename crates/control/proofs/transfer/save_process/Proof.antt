@@ -1,0 +1,85 @@
+use lib.ListN.{length-set}
+use Rattle.mcode.specs.Step.{savedStore}
+use native.Mathlib.Omega.{arith}
+use borrow.Author.Tests.{ne-eqb, lt-ltb, le-ltb, le-leb, lt-leb, eq-eqb}
+use borrow.Author.Needs.{needs}
+use Rattle.control.proofs.transfer.save_process.Statement.{statement}
+use Rattle.control.proofs.transfer.save_process.Tie as tie
+use Rattle.control.proofs.transfer.save_process.Reads as reads
+use Rattle.control.proofs.transfer.save_process.Lts as lts
+use Rattle.control.proofs.transfer.save_words.Reads as save-words-reads
+use Rattle.control.proofs.transfer.write_record.Reads as write-record-reads
+
+cast-s : tie.Need-cast-s
+cast-s c = search needs
+
+save-words-requires : tie.Need-save-words-requires
+save-words-requires c κs = search needs
+
+cast-store : tie.Need-cast-store
+cast-store c = search needs
+
+add-store : tie.Need-add-store
+add-store c = search needs
+
+mul-store : tie.Need-mul-store
+mul-store c = search needs
+
+slice-write-store : tie.Need-slice-write-store
+slice-write-store c = search needs
+
+cast-p : tie.Need-cast-p
+cast-p c = search needs
+
+cast-write-record : tie.Need-cast-write-record
+cast-write-record c = search needs
+
+add-write-record : tie.Need-add-write-record
+add-write-record c = search needs
+
+add-write-record-2 : tie.Need-add-write-record-2
+add-write-record-2 c = search needs
+
+cast-write-record-2 : tie.Need-cast-write-record-2
+cast-write-record-2 c = search needs
+
+add-write-record-3 : tie.Need-add-write-record-3
+add-write-record-3 c = search needs
+
+write-record-requires : tie.Need-write-record-requires
+write-record-requires c κs = simp length-set (omega (arith, c .before .before .before .before .before .save-words .kept, c .before .before .before .before .before .before .before .before .before .pre))
+
+mul-store-2 : tie.Need-mul-store-2
+mul-store-2 c = search needs
+
+slice-write-store-2 : tie.Need-slice-write-store-2
+slice-write-store-2 c = omega (arith, simp length-set at (c .before .before .write-record .kept .0), c .before .before .before .before .before .before .before .before .save-words .kept, c .before .before .before .before .before .before .before .before .before .before .before .before .pre)
+
+same-length : tie.Need-same-length
+same-length c = simp length-set (omega (arith, simp length-set at (c .before .before .write-record .kept .0), c .before .before .before .before .before .before .before .before .save-words .kept))
+
+returns : tie.Need-returns
+unfolding savedStore
+returns c out = rw (← c .before .before .before .before .before .before .before .before .save-words .ensures, ← c .before .before .write-record .ensures)
+
+pub save-process-spec : {M : Type 1} → statement M
+save-process-spec =
+    tie.close
+    (tie.spec
+    cast-s
+    save-words-requires
+    cast-store
+    add-store
+    mul-store
+    slice-write-store
+    cast-p
+    cast-write-record
+    add-write-record
+    add-write-record-2
+    cast-write-record-2
+    add-write-record-3
+    write-record-requires
+    mul-store-2
+    slice-write-store-2
+    same-length
+    returns)

@@ -1,0 +1,35 @@
+-- TRANSFER: the tests of a process that the store alone decides, and the registers that it goes on with.
+use mathlib.Core.Bool.{Bool}
+use mathlib.Core.List.{List}
+use Prim.Native.Nat.{ℕ, _+_, _-_}
+use lib.Dec.{ltb, leb, eqb}
+use Rattle.mcode.specs.Word.{pick, and}
+use Rattle.mcode.specs.Image.{margin}
+use Rattle.mcode.specs.Machine.{address}
+use Rattle.mcode.specs.Step.{Process}
+use Rattle.actions.specs.declared.Core.{Core}
+use Rattle.actions.specs.Table.{moduleIn}
+
+-- "q+8 <= W; 24 <= v <= W; 1 <= s <= W; k <= 16, k < s; s-1-k <= v-24"
+unfoldable pub sized : ℕ → ℕ → Process → Bool
+sized w q x =
+    and (leb (q + 8) w)
+    (and (and (leb margin (x .v)) (leb (x .v) w))
+    (and (and (leb 1 (x .s)) (leb (x .s) w))
+    (and (and (leb (x .k) 16) (ltb (x .k) (x .s)))
+    (leb (x .s - 1 - x .k) (x .v - margin)))))
+
+-- the process x at q in module k; "M only if b /= 0"
+abbrev pub resumed : List ℕ → ℕ → ℕ → ℕ → Process → Core → Core
+resumed table k b q x r = record {
+  pc = x .pc;
+  depth = x .k;
+  start = moduleIn table k .code;
+  unit = k;
+  g = address (moduleIn table k .base);
+  l = address (x .l);
+  s = address (x .s - 1 - x .k);
+  h = address (x .v - margin);
+  p = address q;
+  mask = pick (eqb b 0) (r .mask) (x .mask);
+}

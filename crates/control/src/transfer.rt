@@ -1,0 +1,251 @@
+// 256 b, TRANSFER: everything is read before anything is written.
+use crate::table::find_base;
+use crate::table::number;
+use crate::table::stands;
+use actions::Core;
+use actions::Stepped;
+use actions::leaf::second_of;
+use actions::leaf::take_two;
+use actions::leaf::top_of;
+use actions::leaf::trapped;
+use mcode::Address;
+ghost use mathlib.Core.Path.{_≡_};
+ghost use mathlib.Core.Bool.{true};
+ghost use mathlib.Core.List.{List, [], _∷_};
+ghost use Prim.Native.Nat.{ℕ, _+_, _≤_, _<_};
+ghost use lib.Dec.{eqb};
+ghost use lib.ListN.{length, getD, replicate};
+ghost use Rattle.mcode.specs.Word.{pick};
+ghost use Rattle.mcode.specs.Machine.{position};
+ghost use Rattle.mcode.specs.Decode as Act;
+ghost use Rattle.mcode.specs.Step.{Lent, processAt, saved, restored, written, savedStore, switched};
+ghost use Rattle.actions.specs.Core.{held, result, leftBy, acted, stepped};
+ghost use Rattle.actions.specs.Table.{Anchored, Lends};
+ghost use Rattle.control.specs.Table.{Mapped};
+ghost use Rattle.control.specs.Frames.{Framed};
+ghost use Rattle.control.specs.Transfer.{sized, resumed};
+
+fn word_at(store: &[u16], i: usize) -> u16
+    requires { ⌜ i < length (now store) ⌝ }
+    ensures { λ q. ⌜ q ≡ getD (now (store .entry)) i 0 ⌝ }
+{
+    store[i]
+}
+
+// "q+8 <= W; 24 <= v <= W; 1 <= s <= W; k = word s-1, k <= 16, k < s; s-1-k <= v-24"
+fn is_sized(store: &[u16], q: usize) -> bool
+    requires { ⌜ q < 65536 ⌝ }
+    ensures { λ t. ⌜ t ≡ sized (length (now (store .entry))) q (processAt (now (store .entry)) q) ⌝ }
+{
+    let w = store.len();
+    if w < q + 8 {
+        return false;
+    }
+    let v = word_at(store, q + 5) as usize;
+    if v < 24 {
+        return false;
+    }
+    if w < v {
+        return false;
+    }
+    let s = word_at(store, q + 4) as usize;
+    if s < 1 {
+        return false;
+    }
+    if w < s {
+        return false;
+    }
+    let k = word_at(store, s - 1) as usize;
+    if 16 < k {
+        return false;
+    }
+    if s <= k {
+        return false;
+    }
+    s - 1 - k <= v - 24
+}
+
+// The k words that stand top first from the word at a up, as a stack.
+fn words_at(store: &[u16], a: usize, k: usize) -> [u16; 16]
+    requires { ⌜ (k ≤ 16) × (a + k ≤ length (now store)) ⌝ }
+    ensures { λ q. ⌜ q ≡ restored (now (store .entry)) k a (replicate 16 0) ⌝ }
+{
+    let mut words = [0u16; 16];
+    let mut i = a;
+    let mut n = k;
+    while 0 < n {
+        n = n - 1;
+        words[n] = store[i];
+        i = i + 1;
+    }
+    words
+}
+
+fn mask_of(r: Core, b: u16, m: u16) -> u16
+    ensures { λ q. ⌜ q ≡ pick (eqb b 0) (r .mask) m ⌝ }
+{
+    if b == 0 { r.mask } else { m }
+}
+
+// No stop: the registers of the process at q, which is in module k.
+fn resume(r: Core, table: &[u16; 193], store: &[u16], k: usize, b: u16, q: u16) -> Stepped
+    requires { ⌜ (k < 32) × (sized (length (now store)) q (processAt (now store) q) ≡ true) ⌝ }
+    ensures { λ x. ⌜ x ≡ stepped 0 0 (resumed (now (table .entry)) k b q (processAt (now (store .entry)) q) r) ⌝ }
+{
+    let i = q as usize;
+    let pc = word_at(store, i + 2) as usize;
+    let above = word_at(store, i + 4);
+    let n = word_at(store, above as usize - 1);
+    let depth = n as usize;
+    let start = number(table, k, 1) as usize;
+    let unit = k as u16;
+    let base = number(table, k, 4);
+    let g = Address(base);
+    let frame = word_at(store, i + 1);
+    let l = Address(frame);
+    let s = Address(above - 1 - n);
+    let limit = word_at(store, i + 5);
+    let h = Address(limit - 24);
+    let p = Address(q);
+    let mask = mask_of(r, b, word_at(store, i + 3));
+    let core = Core {
+        pc,
+        depth,
+        start,
+        unit,
+        g,
+        l,
+        s,
+        h,
+        p,
+        mask,
+    };
+    Stepped {
+        stop: 0,
+        code: 0,
+        core,
+    }
+}
+
+// The d words of the stack, top first, from the word at s up.
+fn save_words(stack: &[u16; 16], store: &mut [u16], d: usize, s: usize)
+    requires { ⌜ (d ≤ 16) × (s + d ≤ length (now store)) ⌝ }
+    ensures { λ q. ⌜ now (store .exit) ≡ saved (now (stack .entry)) d s (now (store .entry)) ⌝ }
+{
+    let mut i = s;
+    let mut n = d;
+    while 0 < n {
+        n = n - 1;
+        store[i] = stack[n];
+        i = i + 1;
+    }
+}
+
+fn write_record(store: &mut [u16], p: usize, g: u16, l: u16, at: u16, mask: u16, s: u16, v: u16)
+    requires { ⌜ p + 8 ≤ length (now store) ⌝ }
+    ensures { λ q. ⌜ now (store .exit) ≡ written (g ∷ l ∷ at ∷ mask ∷ s ∷ v ∷ []) p (now (store .entry)) ⌝ }
+{
+    store[p] = g;
+    store[p + 1] = l;
+    store[p + 2] = at;
+    store[p + 3] = mask;
+    store[p + 4] = s;
+    store[p + 5] = v;
+}
+
+// The process of the registers, with d words left on its stack, into the store; then word c.
+fn save_process(r: Core, stack: &[u16; 16], store: &mut [u16], d: usize, c: usize, to: usize)
+    requires { ⌜ (r .s .0 ≤ r .h .0) × (r .h .0 + 24 ≤ length (now store)) × (r .p .0 + 8 ≤ length (now store)) × (length (now store) ≤ 65535) ⌝ }
+    requires { ⌜ (d ≤ 16) × (c < length (now store)) × (to < 65536) ⌝ }
+    ensures { λ q. ⌜ ((out : List ℕ) → now (store .exit) ≡ savedStore (r .g .0) (position to) c (held r (now (stack .entry)) (now (store .entry)) out) d) ⌝ }
+{
+    let s = r.s.0 as usize;
+    save_words(stack, store, d, s);
+    store[s + d] = d as u16;
+    let p = r.p.0 as usize;
+    write_record(
+        store,
+        p,
+        r.g.0,
+        r.l.0,
+        to as u16,
+        r.mask,
+        (s + d + 1) as u16,
+        r.h.0 + 24,
+    );
+    store[c] = r.p.0;
+}
+
+fn set_stack(stack: &mut [u16; 16], words: [u16; 16])
+    ensures { λ q. ⌜ now (stack .exit) ≡ words ⌝ }
+{
+    *stack = words;
+}
+
+// To the process whose record is at q, or 35.
+fn switch(
+    r: Core,
+    table: &[u16; 193],
+    map: &[u8],
+    stack: &mut [u16; 16],
+    store: &mut [u16],
+    b: u16,
+    q: u16,
+    c: usize,
+    to: usize,
+) -> Stepped
+    requires { ⌜ Mapped (now table) (now map) ⌝ }
+    requires { ⌜ Framed (now table) (length (now store)) r ⌝ }
+    requires { ⌜ Anchored (now table) r ⌝ }
+    requires { ⌜ (1 < r .depth) × (c < length (now store)) × (to < 65536) ⌝ }
+    ensures { λ x. ⌜ ((lent : Lent) (bytes words : List ℕ) → Lends bytes (now (table .entry)) (now (map .entry)) words lent → (out : List ℕ) → result x (now (stack .exit)) (now (store .exit)) out ≡ leftBy (held r (now (stack .entry)) (now (store .entry)) out) (switched lent b (position to) c q (held r (now (stack .entry)) (now (store .entry)) out))) × Anchored (now (table .entry)) (x .core) ⌝ }
+{
+    let i = q as usize;
+    if !is_sized(store, i) {
+        return trapped(r, 35);
+    }
+    let s = word_at(store, i + 4) as usize;
+    let n = word_at(store, s - 1) as usize;
+    let k = find_base(table, word_at(store, i));
+    if !stands(table, map, k, word_at(store, i + 2), n) {
+        return trapped(r, 35);
+    }
+    let words = words_at(store, s - 1 - n, n);
+    let next = resume(r, table, store, k, b, q);
+    let d = r.depth;
+    save_process(r, stack, store, d - 2, c, to);
+    set_stack(stack, words);
+    next
+}
+
+// "a and c are addresses (32, a first); q = word a. If q = P, word c becomes P and no more."
+pub fn transfer(
+    r: Core,
+    table: &[u16; 193],
+    map: &[u8],
+    stack: &mut [u16; 16],
+    store: &mut [u16],
+    b: u16,
+    to: usize,
+) -> Stepped
+    requires { ⌜ Mapped (now table) (now map) ⌝ }
+    requires { ⌜ Framed (now table) (length (now store)) r ⌝ }
+    requires { ⌜ Anchored (now table) r ⌝ }
+    requires { ⌜ (1 < r .depth) × (to < 65536) ⌝ }
+    ensures { λ x. ⌜ ((lent : Lent) (bytes words : List ℕ) → Lends bytes (now (table .entry)) (now (map .entry)) words lent → (out : List ℕ) → result x (now (stack .exit)) (now (store .exit)) out ≡ acted lent (Act.Transfer b) to (held r (now (stack .entry)) (now (store .entry)) out)) × Anchored (now (table .entry)) (x .core) ⌝ }
+{
+    let a = top_of(r, stack) as usize;
+    if store.len() <= a {
+        return trapped(r, 32);
+    }
+    let c = second_of(r, stack) as usize;
+    if store.len() <= c {
+        return trapped(r, 32);
+    }
+    let q = word_at(store, a);
+    if q == r.p.0 {
+        store[c] = r.p.0;
+        return take_two(r, stack, to);
+    }
+    switch(r, table, map, stack, store, b, q, c, to)
+}

@@ -1,0 +1,211 @@
+-- Every module's part is the fewest, or one module has none and the map is blank; the loop keeps what is filled so far.
+use mathlib.Core.Path.{_≡_, refl, sym, _∙_, subst}
+use Prim.Native.Nat.{ℕ, _-_, _≤_}
+use lib.ListN.{length, length-replicate}
+use borrow.Author.Tests.{not-true, not-false}
+use borrow.Rule.Slice.PartMut.{putMid}
+use Rattle.mcode.specs.Opcode.{lengths, takens, lefts}
+use Rattle.mcode.specs.Image.{moduleOf}
+use Rattle.mcode.specs.Depths.{Analysis, Fewest, NoneFits, KeptPast}
+use Rattle.depths.specs.Lent.{depthsOf}
+use Rattle.depths.proofs.Parts.{length-part}
+use Rattle.depths.proofs.Same.{depths-same, placed}
+use Rattle.depths.proofs.Whole.{from, to}
+use Rattle.engine.proofs.Fill.{Filled, blank-marks, blank-kept, kept-trans, none-filled, more-kept, more-filled, accepted}
+use native.Mathlib.Omega.{arith}
+use borrow.Author.Needs.{needs}
+use Rattle.engine.proofs.load.check_all.Statement.{statement}
+use Rattle.engine.proofs.load.check_all.Tie as tie
+
+abbrev Inv-loop : tie.InvT-loop
+Inv-loop image map₀ program sizes takes leaves procs tables n size work₀ k₀ map work k =
+    Filled image program k map × KeptPast image map₀ map × (k ≤ n) × (length work ≡ 32767)
+
+abbrev μ-loop : tie.MeasureT-loop
+μ-loop image map₀ program sizes takes leaves procs tables n size work₀ k₀ map work k = n - k
+
+-- what is at hand once the map is blank
+abbrev start : tie.After-blank Inv-loop μ-loop → tie.Start Inv-loop μ-loop
+start b = b .before .before .before .before .before .before .before
+
+kept-blank : (b : tie.After-blank Inv-loop μ-loop) → let a = start b .args in
+    KeptPast (a .image .now) (a .map .now) (putMid 0 (length (a .image .now) - 0) (a .map .now) (b .blank .last .0))
+kept-blank b = blank-kept (start b .args .image .now) (start b .args .map .now) (b .blank .last .0) (start b .pre .1) (b .blank .ensures)
+
+-- and in the loop
+abbrev blank-of : tie.In-loop Inv-loop μ-loop → tie.After-blank Inv-loop μ-loop
+blank-of c = c .before .before .before .before
+
+long-in : (c : tie.In-loop Inv-loop μ-loop) → length (start (blank-of c) .args .image .now) ≤ length (c .before .loop .map)
+long-in c = omega (arith, start (blank-of c) .pre .1, kept-blank (blank-of c) .long, c .before .loop .inv .1 .long)
+
+ends-in : (c : tie.In-loop Inv-loop μ-loop) → to (start (blank-of c) .args .t2) (c .before .loop .k) ≤ length (start (blank-of c) .args .image .now)
+ends-in c = start (blank-of c) .pre .0 .laid .behind (c .before .loop .k) (c .loop-test .taken)
+
+records-of-requires : tie.Need-records-of-requires Inv-loop μ-loop
+records-of-requires c κs = c .before .before .pre .0 .small
+
+sub-blank : tie.Need-sub-blank Inv-loop μ-loop
+sub-blank c = search needs
+
+part-blank-start : tie.Need-part-blank-start Inv-loop μ-loop
+part-blank-start c = search needs
+
+part-blank-end : tie.Need-part-blank-end Inv-loop μ-loop
+part-blank-end c = search needs
+
+blank-requires : tie.Need-blank-requires Inv-loop μ-loop
+blank-requires c κs = search needs
+
+loop-holds : tie.Need-loop-holds Inv-loop μ-loop
+loop-holds c = (
+  none-filled (c .before .before .before .before .before .before .before .before .before .args .image .now) (c .before .before .before .before .before .before .before .before .before .args .t2) _ (blank-marks (c .before .before .before .before .before .before .before .before .before .args .image .now) (c .before .before .before .before .before .before .before .before .before .args .map .now) (c .before .before .blank .last .0) (c .before .before .before .before .before .before .before .before .before .pre .1) (c .before .before .blank .ensures)),
+  record { long = refl; past = λ p h. refl },
+  omega arith,
+  length-replicate {A = ℕ} 32767 0,
+)
+
+mul-m : tie.Need-mul-m Inv-loop μ-loop
+mul-m c = omega (arith, c .before .before .before .before .before .before .before .before .before .before .before .pre .0 .small, c .loop-test .taken)
+
+element-copy-out-m : tie.Need-element-copy-out-m Inv-loop μ-loop
+element-copy-out-m c = omega (arith, c .before .before .before .before .before .before .before .before .before .before .before .pre .0 .small, c .loop-test .taken)
+
+cast-e : tie.Need-cast-e Inv-loop μ-loop
+cast-e c = omega (arith, ends-in ((c .before .before)), c .before .before .before .before .before .before .before .before .before .before .before .before .before .pre .0 .brief)
+
+add-e : tie.Need-add-e Inv-loop μ-loop
+add-e c = omega (arith, ends-in ((c .before .before)), c .before .before .before .before .before .before .before .before .before .before .before .before .before .pre .0 .brief)
+
+sub-check : tie.Need-sub-check Inv-loop μ-loop
+sub-check c = omega arith
+
+part-check-start : tie.Need-part-check-start Inv-loop μ-loop
+part-check-start c = omega arith
+
+part-check-end : tie.Need-part-check-end Inv-loop μ-loop
+part-check-end c = omega (arith, ends-in ((c .before .before)), long-in ((c .before .before)))
+
+slice-aggregate-check : tie.Need-slice-aggregate-check Inv-loop μ-loop
+slice-aggregate-check c = sym (c .before .before .before .before .before .loop .inv .3)
+
+check-requires : tie.Need-check-requires Inv-loop μ-loop
+unfolding lengths takens lefts
+check-requires c κs =
+    let P = c .before .before .before .before .before .before .before .before .before .before .before .before .before .before .before .before .before .before .before .before .args .t2 in
+    let k = c .before .before .before .before .before .before .before .before .before .before .loop .k in
+    let T = c .before .before .before .before .before .before .before .before .before .before .before .before .before .before .before .before .before .before .before .before .pre .0 in
+    let S = T .laid .sound k (c .before .before .before .before .before .before .before .before .before .loop-test .taken) in
+    let long : to P k ≤ length (c .before .before .before .before .before .before .before .before .before .before .loop .map) = omega (arith, ends-in ((c .before .before .before .before .before .before .before .before .before)), long-in ((c .before .before .before .before .before .before .before .before .before))) in (
+      record {
+        sound = S;
+        placed = placed (c .before .before .before .before .before .before .before .before .before .before .before .before .before .before .before .before .before .before .before .before .args .image .now) P _ _ (c .before .before .before .before .before .before .before .before .before .before .before .before .before .before .before .before .before .records-of .ensures) T;
+        sizes-are = refl;
+        takes-are = refl;
+        leaves-are = refl;
+      },
+      (length-part (c .before .before .before .before .before .before .before .before .before .before .loop .map) (from P k) (to P k) long ∙ omega arith, omega (arith, S .short, c .before .before .before .before .before .before .before .before .before .before .loop .inv .3)),
+    )
+
+sub-blank-2 : tie.Need-sub-blank-2 Inv-loop μ-loop
+sub-blank-2 c = search needs
+
+part-blank-start-2 : tie.Need-part-blank-start-2 Inv-loop μ-loop
+part-blank-start-2 c = search needs
+
+part-blank-end-2 : tie.Need-part-blank-end-2 Inv-loop μ-loop
+part-blank-end-2 c = search needs
+
+blank-requires-2 : tie.Need-blank-requires-2 Inv-loop μ-loop
+blank-requires-2 c κs = search needs
+
+same-length : tie.Need-same-length Inv-loop μ-loop
+same-length c = search needs
+
+returns : tie.Need-returns Inv-loop μ-loop
+returns c =
+    let i = (c .before .before .before .before .before .before .before .before .before .before .before .before .before .before .before .before .before .before) in
+    let image = c .before .before .before .before .before .before .before .before .before .before .before .before .before .before .before .before .before .before .before .before .before .before .before .before .before .before .before .before .before .args .image .now in
+    let P = c .before .before .before .before .before .before .before .before .before .before .before .before .before .before .before .before .before .before .before .before .before .before .before .before .before .before .before .before .before .args .t2 in
+    let k = c .before .before .before .before .before .before .before .before .before .before .before .before .before .before .before .before .before .before .before .loop .k in
+    let ys = c .before .before .before .before .before .before .before .before .check .last .1 .0 in
+    let m₁ = putMid (from P k) (to P k - from P k) (c .before .before .before .before .before .before .before .before .before .before .before .before .before .before .before .before .before .before .before .loop .map) ys in
+    let K₁ = more-kept image P (c .before .before .before .before .before .before .before .before .before .before .before .before .before .before .before .before .before .before .before .before .before .before .before .before .before .before .before .before .before .pre .0) (c .before .before .before .before .before .before .before .before .before .before .before .before .before .before .before .before .before .before .before .loop .map) ys (long-in i) k (c .before .before .before .before .before .before .before .before .before .before .before .before .before .before .before .before .before .before .loop-test .taken) (c .before .before .before .before .before .before .before .before .check .kept .1 .0) in
+    let h₂ : length image ≤ length m₁ = omega (arith, long-in i, K₁ .long) in
+    let none : NoneFits (depthsOf image _ _ _ (moduleOf P k)) = (rw (not-true (c .before .before .before .before .before .before .before .before .check .result) (c .before .before .before .before .if1 .taken)) at (c .before .before .before .before .before .before .before .before .check .ensures)) .0 in
+    record {
+      unfit = k;
+      loaded = c .before .before .before .before .before .before .before .before .before .before .before .before .before .before .before .before .before .before .loop-test .taken;
+      none = subst NoneFits (depths-same image P _ _ (c .before .before .before .before .before .before .before .before .before .before .before .before .before .before .before .before .before .before .before .before .before .before .before .before .before .before .records-of .ensures) (moduleOf P k)) none;
+      blank = blank-marks image m₁ (c .before .before .blank2 .last .0) h₂ (c .before .before .blank2 .ensures);
+      kept = kept-trans image (c .before .before .before .before .before .before .before .before .before .before .before .before .before .before .before .before .before .before .before .before .before .before .before .before .before .before .before .before .before .args .map .now) _ _ (kept-blank ((c .before .before .before .before .before .before .before .before .before .before .before .before .before .before .before .before .before .before .before .before .before .before)))
+          (kept-trans image _ (c .before .before .before .before .before .before .before .before .before .before .before .before .before .before .before .before .before .before .before .loop .map) _ (c .before .before .before .before .before .before .before .before .before .before .before .before .before .before .before .before .before .before .before .loop .inv .1)
+          (kept-trans image (c .before .before .before .before .before .before .before .before .before .before .before .before .before .before .before .before .before .before .before .loop .map) m₁ _ K₁ (blank-kept image m₁ (c .before .before .blank2 .last .0) h₂ (c .before .before .blank2 .ensures))));
+    }
+
+add-k : tie.Need-add-k Inv-loop μ-loop
+add-k c = search needs
+
+loop-less : tie.Need-loop-less Inv-loop μ-loop
+loop-less c = search needs
+
+loop-again : tie.Need-loop-again Inv-loop μ-loop
+loop-again c =
+    let i = (c .before .before .before .before .before .before .before .before .before .before .before .before .before .before) in
+    let image = c .before .before .before .before .before .before .before .before .before .before .before .before .before .before .before .before .before .before .before .before .before .before .before .before .before .args .image .now in
+    let P = c .before .before .before .before .before .before .before .before .before .before .before .before .before .before .before .before .before .before .before .before .before .before .before .before .before .args .t2 in
+    let k = c .before .before .before .before .before .before .before .before .before .before .before .before .before .before .before .loop .k in
+    let ys = c .before .before .before .before .check .last .1 .0 in
+    let K₁ = more-kept image P (c .before .before .before .before .before .before .before .before .before .before .before .before .before .before .before .before .before .before .before .before .before .before .before .before .before .pre .0) (c .before .before .before .before .before .before .before .before .before .before .before .before .before .before .before .loop .map) ys (long-in i) k (c .before .before .before .before .before .before .before .before .before .before .before .before .before .before .loop-test .taken) (c .before .before .before .before .check .kept .1 .0) in
+    let few : Fewest (depthsOf image _ _ _ (moduleOf P k)) ys = rw (not-false (c .before .before .before .before .check .result) (c .if1 .left)) at (c .before .before .before .before .check .ensures) in (
+      more-filled image P (c .before .before .before .before .before .before .before .before .before .before .before .before .before .before .before .before .before .before .before .before .before .before .before .before .before .pre .0) (c .before .before .before .before .before .before .before .before .before .before .before .before .before .before .before .loop .map) ys (long-in i) k (c .before .before .before .before .before .before .before .before .before .before .before .before .before .before .loop-test .taken) (c .before .before .before .before .check .kept .1 .0) (c .before .before .before .before .before .before .before .before .before .before .before .before .before .before .before .loop .inv .0)
+          (subst (λ (Z : Analysis). Fewest Z ys) (depths-same image P _ _ (c .before .before .before .before .before .before .before .before .before .before .before .before .before .before .before .before .before .before .before .before .before .before .records-of .ensures) (moduleOf P k)) few),
+      kept-trans image _ (c .before .before .before .before .before .before .before .before .before .before .before .before .before .before .before .loop .map) _ (c .before .before .before .before .before .before .before .before .before .before .before .before .before .before .before .loop .inv .1) K₁,
+      omega (arith, c .before .before .before .before .before .before .before .before .before .before .before .before .before .before .loop-test .taken),
+      c .before .before .before .before .check .kept .1 .1 .0 ∙ c .before .before .before .before .before .before .before .before .before .before .before .before .before .before .before .loop .inv .3,
+    )
+
+same-length-2 : tie.Need-same-length-2 Inv-loop μ-loop
+same-length-2 c = search needs
+
+returns-2 : tie.Need-returns-2 Inv-loop μ-loop
+returns-2 c =
+    let image = c .before .before .before .before .before .before .before .before .before .before .before .args .image .now in
+    let P = c .before .before .before .before .before .before .before .before .before .before .before .args .t2 in
+    let l = c .before .loop in
+    let done : l .k ≡ P .count = omega (arith, c .loop-test .left, l .inv .2) in
+    accepted image P (c .before .before .before .before .before .before .before .before .before .before .before .args .map .now) (l .map) (subst (λ (n : ℕ). Filled image P n (l .map)) done (l .inv .0))
+    (kept-trans image (c .before .before .before .before .before .before .before .before .before .before .before .args .map .now) _ (l .map) (kept-blank ((c .before .before .before .before))) (l .inv .1))
+
+pub check-all-spec : {M : Type 1} → statement M
+check-all-spec =
+    tie.close
+    (tie.spec
+    Inv-loop
+    μ-loop
+    records-of-requires
+    sub-blank
+    part-blank-start
+    part-blank-end
+    blank-requires
+    loop-holds
+    mul-m
+    element-copy-out-m
+    cast-e
+    add-e
+    sub-check
+    part-check-start
+    part-check-end
+    slice-aggregate-check
+    check-requires
+    sub-blank-2
+    part-blank-start-2
+    part-blank-end-2
+    blank-requires-2
+    same-length
+    returns
+    add-k
+    loop-less
+    loop-again
+    same-length-2
+    returns-2)

@@ -1,0 +1,2 @@
+// The engine: load, start and run.
+pub mod load;

@@ -1,0 +1,170 @@
+//! The calls: load, start, run and the desk's reading.
+
+use crate::depths;
+use crate::exec::{self, Lent, Observer};
+use crate::image::{self, Program};
+use crate::machine::{self, Machine};
+use crate::number;
+
+/// What run answers. A refused run answers its number, code 0, count 0 and
+/// the machine as given.
+#[derive(Clone, Copy, Debug, PartialEq, Eq)]
+pub struct RunAnswer {
+    /// A refusal 1 to 12 or a stop 30 to 40.
+    pub number: u8,
+    /// "Code is 0 but for 40."
+    pub code: u16,
+    /// Steps done. "The stopping instruction is not counted."
+    pub count: u32,
+    pub machine: Machine,
+}
+
+/// Tests an image and fills the map: 0, or a refusal 1 to 8. Refusal 8 leaves
+/// the map "FF over the image's length"; the others leave it alone.
+pub fn load(image: &[u8], map: &mut [u8]) -> u8 {
+    let program = match image::parse(image) {
+        Ok(program) => program,
+        Err(refusal) => return refusal,
+    };
+    if map.len() < image.len() {
+        return number::MAP_SHORT;
+    }
+    if !depths::assign(&program, image, map) {
+        return number::NO_DEPTHS;
+    }
+    number::ACCEPTED
+}
+
+/// Clears and sets the store: 0 and the first machine, or a refusal 1 to 6 or
+/// 9, the store left alone and "a machine of zeros".
+pub fn start(image: &[u8], store: &mut [u16]) -> (u8, Machine) {
+    match image::parse(image) {
+        Err(refusal) => (refusal, Machine::default()),
+        Ok(program) if !program.store_fits(store.len()) => (number::STORE_SIZE, Machine::default()),
+        Ok(program) => (number::ACCEPTED, machine::set_up(&program, store)),
+    }
+}
+
+/// Makes at most n steps.
+pub fn run(
+    machine: Machine,
+    image: &[u8],
+    map: &[u8],
+    store: &mut [u16],
+    outputs: &mut [u16],
+    inputs: &[u16],
+    n: u32,
+) -> RunAnswer {
+    let buffers = Buffers {
+        image,
+        map,
+        store,
+        outputs,
+        inputs,
+    };
+    run_observed(machine, buffers, n, &mut ())
+}
+
+/// Buffers as the caller has them, of any length.
+pub struct Buffers<'a> {
+    pub image: &'a [u8],
+    pub map: &'a [u8],
+    pub store: &'a mut [u16],
+    pub outputs: &'a mut [u16],
+    pub inputs: &'a [u16],
+}
+
+/// Run, with somebody watching the steps.
+pub fn run_observed<O: Observer>(
+    machine: Machine,
+    buffers: Buffers,
+    n: u32,
+    observer: &mut O,
+) -> RunAnswer {
+    match admit(&machine, buffers) {
+        Ok((program, lent)) => exec::execute(&program, lent, machine, n, observer),
+        Err(refusal) => RunAnswer {
+            number: refusal,
+            code: 0,
+            count: 0,
+            machine,
+        },
+    }
+}
+
+/// Run's tests in their order: 1 to 6, then "7, 12, 9, 10, 11".
+fn admit<'a>(machine: &Machine, buffers: Buffers<'a>) -> Result<(Program, Lent<'a>), u8> {
+    let Buffers {
+        image,
+        map,
+        store,
+        outputs,
+        inputs,
+    } = buffers;
+    let program = image::parse(image)?;
+    if map.len() < image.len() {
+        return Err(number::MAP_SHORT);
+    }
+    if !depths::fits(&program, image, map) {
+        return Err(number::MAP_UNFIT);
+    }
+    if !program.store_fits(store.len()) {
+        return Err(number::STORE_SIZE);
+    }
+    let (Ok(outputs), Ok(inputs)) = (outputs.try_into(), inputs.try_into()) else {
+        return Err(number::CHANNEL_COUNT);
+    };
+    if !machine.is_machine(&program, map, store.len()) {
+        return Err(number::NOT_A_MACHINE);
+    }
+    let lent = Lent {
+        image,
+        map,
+        store,
+        outputs,
+        inputs,
+    };
+    Ok((program, lent))
+}
+
+/// "A whole reading": load, start and run with "W = 4,096, inputs 0, outputs
+/// first 0, n = 1,000". The text ends in a line feed.
+pub fn desk(image: &[u8]) -> String {
+    const WORDS: usize = 4_096;
+    const STEPS: u32 = 1_000;
+    let refused = |refusal: u8| format!("refused {refusal}\n");
+
+    let mut map = vec![depths::UNMARKED; image.len()];
+    let refusal = load(image, &mut map);
+    if refusal != number::ACCEPTED {
+        return refused(refusal);
+    }
+    let mut store = vec![0; WORDS];
+    let (refusal, machine) = start(image, &mut store);
+    if refusal != number::ACCEPTED {
+        return refused(refusal);
+    }
+    let mut outputs = [0; 16];
+    let answer = run(
+        machine,
+        image,
+        &map,
+        &mut store,
+        &mut outputs,
+        &[0; 16],
+        STEPS,
+    );
+    if answer.number < number::SPENT {
+        return refused(answer.number);
+    }
+    let Machine {
+        module, pc, depth, ..
+    } = answer.machine;
+    format!(
+        "stop {} code {} steps {} module {module} pc {pc} depth {depth}\n{}\n",
+        answer.number,
+        answer.code,
+        answer.count,
+        outputs.map(|word| word.to_string()).join(" "),
+    )
+}

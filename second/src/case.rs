@@ -1,0 +1,390 @@
+//! Cases to be replayed by another program, and their file.
+//!
+//! A case is an image with its buffers and a list of runs. It is replayed so:
+//! a map of the length given is filled with one byte and handed to load; a
+//! store of the length given is filled with one word and handed to start; the
+//! outputs are set; then every run follows, whatever load and start answered.
+//! Before a run its patches are written into the map and into the store. The
+//! machine handed to a run is its own, if it has one, else the one that start
+//! or the run before returned.
+//!
+//! # The file
+//!
+//! A sequence of 16 bit words, high byte first. A long number is two words,
+//! high word first. Each list is preceded by its length.
+//!
+//! ```text
+//! file:    4D43 hex, 1, long number of cases, the cases
+//! case:    long image length, image bytes (two a word, the first one high;
+//!            an odd last one is followed by a byte 0)
+//!          long map length, byte that fills the map
+//!          long store length, word that fills the store
+//!          number of outputs, outputs
+//!          number of runs, the runs
+//! run:     long budget
+//!          number of inputs, inputs
+//!          0, or 1 and a machine
+//!          number of map patches, each: offset, byte
+//!          number of store patches, each: address, word
+//! machine: module (0 to 255), pc, depth (0 to 255), P, L, S, H, M,
+//!            16 stack words, the bottom first
+//! ```
+//!
+//! No image, map or store is longer than [`LONGEST`]; no list of inputs or
+//! outputs has more than [`MOST_CHANNELS`] words. Patches lie inside their
+//! buffers.
+
+use crate::api::{self, Buffers, RunAnswer};
+use crate::exec::Observer;
+use crate::machine::Machine;
+use std::fmt;
+
+const MAGIC: u16 = 0x4D43;
+const VERSION: u16 = 1;
+
+/// The most bytes or words of an image, a map or a store.
+pub const LONGEST: usize = 65_600;
+/// The most inputs or outputs.
+pub const MOST_CHANNELS: usize = 32;
+
+#[derive(Clone, Debug, Default, PartialEq, Eq)]
+pub struct Case {
+    pub image: Vec<u8>,
+    pub map_length: usize,
+    pub map_fill: u8,
+    pub store_length: usize,
+    pub store_fill: u16,
+    pub outputs: Vec<u16>,
+    pub runs: Vec<CaseRun>,
+}
+
+#[derive(Clone, Debug, Default, PartialEq, Eq)]
+pub struct CaseRun {
+    pub budget: u32,
+    pub inputs: Vec<u16>,
+    pub machine: Option<Machine>,
+    pub map_patches: Vec<(u16, u8)>,
+    pub store_patches: Vec<(u16, u16)>,
+}
+
+/// Two checksums of a sequence: from 1 on, each word x makes the first one
+/// (31 h + x) modulo 65,521 and the second one (257 h + x) modulo 65,519.
+#[derive(Clone, Copy, Debug, PartialEq, Eq)]
+pub struct Checksum(pub u32, pub u32);
+
+impl Checksum {
+    pub fn of(words: impl Iterator<Item = u16>) -> Checksum {
+        words.fold(Checksum(1, 1), |Checksum(first, second), word| {
+            let word = u32::from(word);
+            Checksum((31 * first + word) % 65_521, (257 * second + word) % 65_519)
+        })
+    }
+}
+
+impl fmt::Display for Checksum {
+    fn fmt(&self, f: &mut fmt::Formatter) -> fmt::Result {
+        write!(f, "{} {}", self.0, self.1)
+    }
+}
+
+/// What the second interpreter says about a case.
+#[derive(Clone, Debug, PartialEq, Eq)]
+pub struct Outcome {
+    pub load: u8,
+    /// Of the whole map after load.
+    pub map: Checksum,
+    pub start: u8,
+    /// Of the whole store after start.
+    pub store: Checksum,
+    pub machine: Machine,
+    pub runs: Vec<RunOutcome>,
+}
+
+/// An answer, and the outputs and the store after it.
+#[derive(Clone, Debug, PartialEq, Eq)]
+pub struct RunOutcome {
+    pub answer: RunAnswer,
+    pub outputs: Vec<u16>,
+    pub store: Checksum,
+}
+
+/// Replays a case.
+pub fn replay<O: Observer>(case: &Case, observer: &mut O) -> Outcome {
+    let image = &case.image;
+    let mut map = vec![case.map_fill; case.map_length];
+    let load = api::load(image, &mut map);
+    let map_sum = Checksum::of(map.iter().map(|&byte| u16::from(byte)));
+    let mut store = vec![case.store_fill; case.store_length];
+    let (start, first_machine) = api::start(image, &mut store);
+    let mut outcome = Outcome {
+        load,
+        map: map_sum,
+        start,
+        store: Checksum::of(store.iter().copied()),
+        machine: first_machine,
+        runs: Vec::with_capacity(case.runs.len()),
+    };
+    let mut machine = first_machine;
+    let mut outputs = case.outputs.clone();
+    for run in &case.runs {
+        for &(offset, byte) in &run.map_patches {
+            map[usize::from(offset)] = byte;
+        }
+        for &(address, word) in &run.store_patches {
+            store[usize::from(address)] = word;
+        }
+        let buffers = Buffers {
+            image,
+            map: &map,
+            store: &mut store,
+            outputs: &mut outputs,
+            inputs: &run.inputs,
+        };
+        let handed = run.machine.unwrap_or(machine);
+        let answer = api::run_observed(handed, buffers, run.budget, observer);
+        machine = answer.machine;
+        outcome.runs.push(RunOutcome {
+            answer,
+            outputs: outputs.clone(),
+            store: Checksum::of(store.iter().copied()),
+        });
+    }
+    outcome
+}
+
+/// Words in a row, separated by blanks.
+struct Row<'a>(&'a [u16]);
+
+impl fmt::Display for Row<'_> {
+    fn fmt(&self, f: &mut fmt::Formatter) -> fmt::Result {
+        for (i, word) in self.0.iter().enumerate() {
+            write!(f, "{}{word}", if i == 0 { "" } else { " " })?;
+        }
+        Ok(())
+    }
+}
+
+/// The machine's words in the order of the file.
+fn machine_words(machine: &Machine) -> Vec<u16> {
+    let mut words = vec![
+        u16::from(machine.module),
+        machine.pc,
+        u16::from(machine.depth),
+        machine.p,
+        machine.l,
+        machine.s,
+        machine.h,
+        machine.m,
+    ];
+    words.extend(machine.stack);
+    words
+}
+
+impl fmt::Display for Outcome {
+    /// A line for load and start, and a line for every run.
+    fn fmt(&self, f: &mut fmt::Formatter) -> fmt::Result {
+        writeln!(
+            f,
+            "load {} map {} start {} store {} machine {}",
+            self.load,
+            self.map,
+            self.start,
+            self.store,
+            Row(&machine_words(&self.machine)),
+        )?;
+        for run in &self.runs {
+            let answer = &run.answer;
+            write!(
+                f,
+                "run {} code {} count {} machine {} outputs",
+                answer.number,
+                answer.code,
+                answer.count,
+                Row(&machine_words(&answer.machine)),
+            )?;
+            for word in &run.outputs {
+                write!(f, " {word}")?;
+            }
+            writeln!(f, " store {}", run.store)?;
+        }
+        Ok(())
+    }
+}
+
+/// The file of these cases.
+pub fn encode(cases: &[Case]) -> Vec<u8> {
+    let mut out = Output(Vec::new());
+    out.word(MAGIC);
+    out.word(VERSION);
+    out.long(cases.len() as u32);
+    for case in cases {
+        out.long(case.image.len() as u32);
+        out.0.extend(&case.image);
+        out.0.resize(out.0.len().next_multiple_of(2), 0);
+        out.long(case.map_length as u32);
+        out.word(u16::from(case.map_fill));
+        out.long(case.store_length as u32);
+        out.word(case.store_fill);
+        out.list(&case.outputs);
+        out.word(case.runs.len() as u16);
+        for run in &case.runs {
+            out.long(run.budget);
+            out.list(&run.inputs);
+            out.word(u16::from(run.machine.is_some()));
+            if let Some(machine) = &run.machine {
+                machine_words(machine)
+                    .iter()
+                    .for_each(|&word| out.word(word));
+            }
+            out.word(run.map_patches.len() as u16);
+            for &(offset, byte) in &run.map_patches {
+                out.word(offset);
+                out.word(u16::from(byte));
+            }
+            out.word(run.store_patches.len() as u16);
+            for &(address, word) in &run.store_patches {
+                out.word(address);
+                out.word(word);
+            }
+        }
+    }
+    out.0
+}
+
+struct Output(Vec<u8>);
+
+impl Output {
+    fn word(&mut self, word: u16) {
+        self.0.extend(word.to_be_bytes());
+    }
+
+    fn long(&mut self, number: u32) {
+        self.0.extend(number.to_be_bytes());
+    }
+
+    fn list(&mut self, words: &[u16]) {
+        self.word(words.len() as u16);
+        words.iter().for_each(|&word| self.word(word));
+    }
+}
+
+/// The cases of a file, or what is wrong with it.
+pub fn decode(file: &[u8]) -> Result<Vec<Case>, String> {
+    let mut input = Input { file, position: 0 };
+    if input.word()? != MAGIC || input.word()? != VERSION {
+        return Err("this is no file of cases, version 1".into());
+    }
+    let count = input.long()?;
+    let cases: Result<Vec<Case>, String> = (0..count).map(|_| input.case()).collect();
+    if cases.is_ok() && input.position != file.len() {
+        return Err(format!("bytes after the last case, at {}", input.position));
+    }
+    cases
+}
+
+struct Input<'a> {
+    file: &'a [u8],
+    position: usize,
+}
+
+impl<'a> Input<'a> {
+    fn bytes(&mut self, length: usize) -> Result<&'a [u8], String> {
+        let bytes = self.file.get(self.position..self.position + length);
+        self.position += length;
+        bytes.ok_or_else(|| "the file ends inside a case".into())
+    }
+
+    fn word(&mut self) -> Result<u16, String> {
+        let bytes = self.bytes(2)?;
+        Ok(u16::from_be_bytes([bytes[0], bytes[1]]))
+    }
+
+    fn long(&mut self) -> Result<usize, String> {
+        Ok(usize::from(self.word()?) << 16 | usize::from(self.word()?))
+    }
+
+    /// A word or a long number that is not above a limit.
+    fn limited(&mut self, number: usize, limit: usize) -> Result<usize, String> {
+        if number <= limit {
+            Ok(number)
+        } else {
+            Err(format!("{number} is above {limit} at {}", self.position))
+        }
+    }
+
+    fn byte_in_word(&mut self) -> Result<u8, String> {
+        let word = usize::from(self.word()?);
+        Ok(self.limited(word, 255)? as u8)
+    }
+
+    fn length(&mut self) -> Result<usize, String> {
+        let length = self.long()?;
+        self.limited(length, LONGEST)
+    }
+
+    fn list(&mut self) -> Result<Vec<u16>, String> {
+        let length = usize::from(self.word()?);
+        let length = self.limited(length, MOST_CHANNELS)?;
+        (0..length).map(|_| self.word()).collect()
+    }
+
+    fn case(&mut self) -> Result<Case, String> {
+        let image_length = self.length()?;
+        let padded = self.bytes(image_length.next_multiple_of(2))?;
+        let mut case = Case {
+            image: padded[..image_length].to_vec(),
+            map_length: self.length()?,
+            map_fill: self.byte_in_word()?,
+            store_length: self.length()?,
+            store_fill: self.word()?,
+            outputs: self.list()?,
+            runs: Vec::new(),
+        };
+        for _ in 0..self.word()? {
+            let run = self.run(&case)?;
+            case.runs.push(run);
+        }
+        Ok(case)
+    }
+
+    fn run(&mut self, case: &Case) -> Result<CaseRun, String> {
+        let mut run = CaseRun {
+            budget: self.long()? as u32,
+            inputs: self.list()?,
+            ..CaseRun::default()
+        };
+        let with_machine = usize::from(self.word()?);
+        if self.limited(with_machine, 1)? == 1 {
+            run.machine = Some(self.machine()?);
+        }
+        for _ in 0..self.word()? {
+            let offset = self.word()?;
+            self.limited(usize::from(offset) + 1, case.map_length)?;
+            run.map_patches.push((offset, self.byte_in_word()?));
+        }
+        for _ in 0..self.word()? {
+            let address = self.word()?;
+            self.limited(usize::from(address) + 1, case.store_length)?;
+            run.store_patches.push((address, self.word()?));
+        }
+        Ok(run)
+    }
+
+    fn machine(&mut self) -> Result<Machine, String> {
+        let mut machine = Machine {
+            module: self.byte_in_word()?,
+            pc: self.word()?,
+            depth: self.byte_in_word()?,
+            p: self.word()?,
+            l: self.word()?,
+            s: self.word()?,
+            h: self.word()?,
+            m: self.word()?,
+            stack: [0; 16],
+        };
+        for word in &mut machine.stack {
+            *word = self.word()?;
+        }
+        Ok(machine)
+    }
+}

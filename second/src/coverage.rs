@@ -1,0 +1,170 @@
+//! What generated cases reach: opcodes, traps of opcodes, refusals.
+
+use crate::case::{replay, Case};
+use crate::exec::Observer;
+use crate::image::parse;
+use crate::number::*;
+use crate::opcode::{self, row};
+use std::fmt::Write;
+
+/// Counts of what was reached.
+pub struct Coverage {
+    /// Steps of each opcode.
+    steps: [u64; 256],
+    /// Stops of each opcode, by number less 31: the end and the traps.
+    stops: [[u64; 10]; 256],
+    spent: u64,
+    load: [u64; 13],
+    start: [u64; 13],
+    run: [u64; 13],
+    cases: u64,
+}
+
+impl Observer for [u64; 256] {
+    fn done(&mut self, opcode: u8) {
+        self[usize::from(opcode)] += 1;
+    }
+}
+
+/// Refusals that each call can answer, with 0 where it accepts.
+const LOAD: [u8; 9] = [0, 1, 2, 3, 4, 5, 6, 7, 8];
+const START: [u8; 8] = [0, 1, 2, 3, 4, 5, 6, 9];
+const RUN: [u8; 11] = [1, 2, 3, 4, 5, 6, 7, 9, 10, 11, 12];
+
+/// The end and the traps that an opcode can stop with. (102–117 and 122–137
+/// cannot: a base and 15 more is below Z + 36.)
+fn possible_stops(opcode: u8) -> &'static [u8] {
+    match opcode {
+        0o040 | 0o042 | 0o044..=0o057 | 0o060 | 0o062 | 0o064..=0o077 => &[ADDRESS],
+        0o100 | 0o120 | 0o140..=0o177 => &[ADDRESS],
+        0o200 | 0o205 | 0o206 | 0o220 | 0o225 | 0o226 => &[ADDRESS],
+        0o240 => &[ADDRESS, CHANNEL],
+        0o241 => &[CHANNEL],
+        0o245 | 0o305 | 0o306 => &[CHECK],
+        0o256 => &[ADDRESS, PROCESS],
+        0o273 | 0o274 => &[DIVISOR],
+        0o304 => &[PROGRAM],
+        0o316 | 0o317 | 0o330..=0o332 => &[SIGNED_RANGE],
+        0o333 => &[DIVISOR, SIGNED_RANGE],
+        0o350 | 0o351 => &[ADDRESS],
+        0o353 | 0o355 | 0o356 | 0o360..=0o377 => &[STACK_LIMIT],
+        0o354 => &[ENDED, RETURN_MARK],
+        _ => &[],
+    }
+}
+
+impl Coverage {
+    /// Replays the cases.
+    pub fn of(cases: impl Iterator<Item = Case>) -> Coverage {
+        let mut coverage = Coverage {
+            steps: [0; 256],
+            stops: [[0; 10]; 256],
+            spent: 0,
+            load: [0; 13],
+            start: [0; 13],
+            run: [0; 13],
+            cases: 0,
+        };
+        cases.for_each(|case| coverage.add(&case));
+        coverage
+    }
+
+    fn add(&mut self, case: &Case) {
+        self.cases += 1;
+        let outcome = replay(case, &mut self.steps);
+        self.load[usize::from(outcome.load)] += 1;
+        self.start[usize::from(outcome.start)] += 1;
+        for run in outcome.runs {
+            let answer = run.answer;
+            match answer.number {
+                SPENT => self.spent += 1,
+                ENDED..=PROGRAM => {
+                    let program = parse(&case.image).expect("it was run");
+                    let module = &program.modules[usize::from(answer.machine.module)];
+                    let position = module.code_start + usize::from(answer.machine.pc);
+                    let opcode = usize::from(case.image[position]);
+                    self.stops[opcode][usize::from(answer.number - ENDED)] += 1;
+                }
+                refusal => self.run[usize::from(refusal)] += 1,
+            }
+        }
+    }
+
+    fn stop_count(&self, opcode: u8, stop: u8) -> u64 {
+        self.stops[usize::from(opcode)][usize::from(stop - ENDED)]
+    }
+
+    /// What should have been reached and was not, and what cannot be and was.
+    pub fn faults(&self) -> Vec<String> {
+        let mut faults = Vec::new();
+        for opcode in 0..=255 {
+            let name = format!("opcode {opcode:03o} {}", row(opcode).mnemonic);
+            // 304 always traps.
+            let steps = opcode::row(opcode).length != 0 && opcode != opcode::TRAP;
+            match (steps, self.steps[usize::from(opcode)]) {
+                (true, 0) => faults.push(format!("{name} was never executed")),
+                (false, 1..) => faults.push(format!("{name} was executed")),
+                _ => {}
+            }
+            for stop in ENDED..=PROGRAM {
+                let possible = possible_stops(opcode).contains(&stop);
+                match (possible, self.stop_count(opcode, stop)) {
+                    (true, 0) => faults.push(format!("{name} never stopped with {stop}")),
+                    (false, 1..) => faults.push(format!("{name} stopped with {stop}")),
+                    _ => {}
+                }
+            }
+        }
+        if self.spent == 0 {
+            faults.push("no run stopped with 30".into());
+        }
+        for (call, counts, possible) in [
+            ("load", &self.load, &LOAD[..]),
+            ("start", &self.start, &START),
+            ("run", &self.run, &RUN),
+        ] {
+            for (number, &count) in (0u8..).zip(counts) {
+                match (possible.contains(&number), count) {
+                    (true, 0) => faults.push(format!("{call} never answered {number}")),
+                    (false, 1..) => faults.push(format!("{call} answered {number}")),
+                    _ => {}
+                }
+            }
+        }
+        faults
+    }
+
+    /// The tables, as text.
+    pub fn report(&self) -> String {
+        let mut text = format!("cases {}\n", self.cases);
+        let mut line = |title: &str, counts: Vec<(String, u64)>| {
+            let _ = write!(text, "{title}");
+            for (name, count) in counts {
+                let _ = write!(text, "  {name}:{count}");
+            }
+            text.push('\n');
+        };
+        let numbers = |possible: &[u8], counts: &[u64; 13]| {
+            let pair = |&number: &u8| (number.to_string(), counts[usize::from(number)]);
+            possible.iter().map(pair).collect()
+        };
+        line("load", numbers(&LOAD, &self.load));
+        line("start", numbers(&START, &self.start));
+        line("run refused", numbers(&RUN, &self.run));
+        let mut stops = vec![("30".to_string(), self.spent)];
+        for stop in ENDED..=PROGRAM {
+            let count = (0..=255).map(|opcode| self.stop_count(opcode, stop)).sum();
+            stops.push((stop.to_string(), count));
+        }
+        line("run stopped", stops);
+        let listed: Vec<u8> = opcode::listed().collect();
+        for opcodes in listed.chunks(8) {
+            let pair = |&opcode: &u8| {
+                let name = format!("{opcode:03o} {}", row(opcode).mnemonic);
+                (name, self.steps[usize::from(opcode)])
+            };
+            line("steps", opcodes.iter().map(pair).collect());
+        }
+        text
+    }
+}

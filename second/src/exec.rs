@@ -1,0 +1,674 @@
+//! "Instructions": the stepping loop.
+//!
+//! The loop trusts what was tested before it: the map fits, so an instruction
+//! lies in its code with its operands, the words that it takes are on the
+//! stack and those it puts find room, and every module and procedure operand
+//! exists. What depends on words of the store is tested here.
+
+use crate::api::RunAnswer;
+use crate::image::{Procedure, Program};
+use crate::machine::Machine;
+use crate::number;
+
+/// What a run is lent. The slices have passed run's tests.
+pub struct Lent<'a> {
+    pub image: &'a [u8],
+    pub map: &'a [u8],
+    pub store: &'a mut [u16],
+    pub outputs: &'a mut [u16; 16],
+    pub inputs: &'a [u16; 16],
+}
+
+/// Sees each instruction that is counted.
+pub trait Observer {
+    fn done(&mut self, opcode: u8);
+}
+
+/// Sees nothing.
+impl Observer for () {
+    #[inline(always)]
+    fn done(&mut self, _: u8) {}
+}
+
+/// What the loop uses of the module that it is in.
+#[derive(Clone, Copy)]
+struct Here<'a> {
+    code: &'a [u8],
+    marks: &'a [u8],
+    procedures: &'a [Procedure],
+    /// G.
+    base: u16,
+}
+
+impl<'a> Here<'a> {
+    /// Inlined so that the loop keeps the parts in registers.
+    #[inline(always)]
+    fn new(program: &'a Program, image: &'a [u8], map: &'a [u8], module: u8) -> Here<'a> {
+        let index = usize::from(module);
+        let range = program.modules[index].code_range();
+        Here {
+            code: &image[range.clone()],
+            marks: &map[range],
+            procedures: program.procedures(index),
+            base: program.modules[index].base as u16,
+        }
+    }
+}
+
+/// Steps until a stop: 30 after n steps, 31 at the end, or a trap. "A trap or
+/// an end leaves everything as before its instruction", so every arm below
+/// stops before it alters anything. Not inlined: the loop wants all registers.
+#[inline(never)]
+pub fn execute<O: Observer>(
+    program: &Program,
+    lent: Lent,
+    machine: Machine,
+    n: u32,
+    observer: &mut O,
+) -> RunAnswer {
+    let Lent {
+        image,
+        map,
+        store,
+        outputs,
+        inputs,
+    } = lent;
+    let Machine {
+        mut module,
+        mut p,
+        mut l,
+        mut s,
+        mut h,
+        mut m,
+        mut stack,
+        ..
+    } = machine;
+    let mut pc = usize::from(machine.pc);
+    let mut depth = usize::from(machine.depth);
+    let mut here = Here::new(program, image, map, module);
+    let mut left = n;
+
+    // The word `i` places from the top: 1 is the paper's a, 2 its c, 3 its e.
+    // The remainder by 16 only spares a bounds test that the map makes idle.
+    macro_rules! word {
+        ($i:literal) => {
+            stack[depth.wrapping_sub($i) % 16]
+        };
+    }
+    macro_rules! put {
+        ($word:expr) => {{
+            stack[depth % 16] = $word;
+            depth += 1;
+        }};
+    }
+    // b, w: the operand byte or word at an offset from the opcode.
+    macro_rules! byte {
+        ($offset:literal) => {
+            here.code[pc + $offset]
+        };
+    }
+    macro_rules! operand_word {
+        () => {
+            u16::from_be_bytes([byte!(1), byte!(2)])
+        };
+    }
+    // "Address sums are modulo 65,536; one not below W is trap 32."
+    macro_rules! at {
+        ($base:expr, $offset:expr) => {
+            match store.get_mut(usize::from($base.wrapping_add(u16::from($offset)))) {
+                Some(word) => word,
+                None => break (number::ADDRESS, 0),
+            }
+        };
+    }
+    macro_rules! load {
+        ($base:expr, $offset:expr, $length:literal) => {{
+            let word = *at!($base, $offset);
+            put!(word);
+            pc += $length;
+        }};
+    }
+    macro_rules! store {
+        ($base:expr, $offset:expr, taken $taken:literal, $length:literal) => {{
+            *at!($base, $offset) = word!(1);
+            depth -= $taken;
+            pc += $length;
+        }};
+    }
+    // Replaces the top word, or the two top words, by one.
+    macro_rules! one {
+        (|$a:ident| $result:expr) => {{
+            let $a = word!(1);
+            word!(1) = $result;
+            pc += 1;
+        }};
+    }
+    macro_rules! two {
+        (|$c:ident, $a:ident| $result:expr) => {{
+            let ($c, $a) = (word!(2), word!(1));
+            word!(2) = $result;
+            depth -= 1;
+            pc += 1;
+        }};
+    }
+    // The same for signed words; None is trap 37.
+    macro_rules! signed {
+        ($result:expr) => {
+            match $result {
+                Some(result) => result as u16,
+                None => break (number::SIGNED_RANGE, 0),
+            }
+        };
+    }
+    macro_rules! base_of {
+        ($module:expr) => {
+            program.modules[usize::from($module)].base as u16
+        };
+    }
+    // "S+4 above H is 33. Words S, S+1, S+2 become link, L, next position;
+    // L = S, S += 4."
+    macro_rules! mark {
+        ($link:expr, $position:expr) => {{
+            let frame = usize::from(s);
+            if frame + 4 > usize::from(h) {
+                break (number::STACK_LIMIT, 0);
+            }
+            store[frame..frame + 3].copy_from_slice(&[$link, l, $position as u16]);
+            l = s;
+            s += 4;
+        }};
+    }
+    // A signed division's zero divisor comes before its range.
+    macro_rules! divisor {
+        ($a:expr) => {
+            if $a == 0 {
+                break (number::DIVISOR, 0);
+            }
+        };
+    }
+    macro_rules! gather {
+        () => {
+            Machine {
+                module,
+                pc: pc as u16,
+                depth: depth as u8,
+                p,
+                l,
+                s,
+                h,
+                m,
+                stack,
+            }
+        };
+    }
+
+    let (stop, code) = loop {
+        if left == 0 {
+            break (number::SPENT, 0);
+        }
+        let opcode = here.code[pc];
+        let low = opcode & 0o17;
+        match opcode {
+            // "000–017 put 0–15. 020 b. 022 w. 024 L+b. 025 G+b. 026 a+b.
+            // 027 m b: base m + b."
+            0o000..=0o017 => {
+                put!(u16::from(low));
+                pc += 1;
+            }
+            0o020 => {
+                put!(u16::from(byte!(1)));
+                pc += 2;
+            }
+            0o022 => {
+                put!(operand_word!());
+                pc += 3;
+            }
+            0o024 => {
+                put!(l.wrapping_add(u16::from(byte!(1))));
+                pc += 2;
+            }
+            0o025 => {
+                put!(here.base.wrapping_add(u16::from(byte!(1))));
+                pc += 2;
+            }
+            0o026 => {
+                word!(1) = word!(1).wrapping_add(u16::from(byte!(1)));
+                pc += 2;
+            }
+            0o027 => {
+                put!(base_of!(byte!(1)).wrapping_add(u16::from(byte!(2))));
+                pc += 3;
+            }
+
+            // "Jumps, from the operand's first byte: 030 w signed, if a = 0;
+            // 031 w signed, always; 032 b forward, if a = 0; 033 b forward;
+            // 034 b back, if a = 0; 035 b back."
+            0o030 => {
+                depth -= 1;
+                pc = if stack[depth % 16] == 0 {
+                    (pc + 1).wrapping_add_signed(isize::from(operand_word!() as i16))
+                } else {
+                    pc + 3
+                };
+            }
+            0o031 => pc = (pc + 1).wrapping_add_signed(isize::from(operand_word!() as i16)),
+            0o032 => {
+                depth -= 1;
+                pc += if stack[depth % 16] == 0 {
+                    1 + usize::from(byte!(1))
+                } else {
+                    2
+                };
+            }
+            0o033 => pc += 1 + usize::from(byte!(1)),
+            0o034 => {
+                depth -= 1;
+                pc = if stack[depth % 16] == 0 {
+                    pc + 1 - usize::from(byte!(1))
+                } else {
+                    pc + 2
+                };
+            }
+            0o035 => pc = pc + 1 - usize::from(byte!(1)),
+            // "036 b: a ≠ 0 puts 1 and jumps forward. 037 b: a = 0 puts 0 and
+            // jumps forward. The other outcome only takes a."
+            0o036 => {
+                if word!(1) != 0 {
+                    word!(1) = 1;
+                    pc += 1 + usize::from(byte!(1));
+                } else {
+                    depth -= 1;
+                    pc += 2;
+                }
+            }
+            0o037 => {
+                if word!(1) == 0 {
+                    pc += 1 + usize::from(byte!(1));
+                } else {
+                    depth -= 1;
+                    pc += 2;
+                }
+            }
+
+            // "Load word: 040 L+b, 044–057 L+4..15; 100 G+b, 102–117
+            // G+2..15; 042 m b; 140–157 a+0..15; 200 a+b; 206 c+a."
+            0o040 => load!(l, byte!(1), 2),
+            0o042 => load!(base_of!(byte!(1)), byte!(2), 3),
+            0o044..=0o057 => load!(l, low, 1),
+            0o100 => load!(here.base, byte!(1), 2),
+            0o102..=0o117 => load!(here.base, low, 1),
+            0o140..=0o157 => {
+                word!(1) = *at!(word!(1), low);
+                pc += 1;
+            }
+            0o200 => {
+                word!(1) = *at!(word!(1), byte!(1));
+                pc += 2;
+            }
+            0o206 => {
+                word!(2) = *at!(word!(2), word!(1));
+                depth -= 1;
+                pc += 1;
+            }
+
+            // "Store: 060, 064–077, 120, 122–137, 062 likewise, value a;
+            // 160–177 and 220 store a at c+0..15 or c+b; 226 stores a at e+c."
+            0o060 => store!(l, byte!(1), taken 1, 2),
+            0o062 => store!(base_of!(byte!(1)), byte!(2), taken 1, 3),
+            0o064..=0o077 => store!(l, low, taken 1, 1),
+            0o120 => store!(here.base, byte!(1), taken 1, 2),
+            0o122..=0o137 => store!(here.base, low, taken 1, 1),
+            0o160..=0o177 => store!(word!(2), low, taken 2, 1),
+            0o220 => store!(word!(2), byte!(1), taken 2, 2),
+            0o226 => store!(word!(3), word!(2), taken 3, 1),
+
+            // "205: byte a of the string at c; 225: byte c of the string at e
+            // set to a modulo 256. Byte i is in word i div 2, even i the high
+            // byte."
+            0o205 => {
+                let index = word!(1);
+                let [high, low] = at!(word!(2), index / 2).to_be_bytes();
+                word!(2) = u16::from(if index % 2 == 0 { high } else { low });
+                depth -= 1;
+                pc += 1;
+            }
+            0o225 => {
+                let index = word!(2);
+                let value = word!(1) % 256;
+                let word = at!(word!(3), index / 2);
+                *word = if index % 2 == 0 {
+                    value << 8 | *word & 0x00FF
+                } else {
+                    *word & 0xFF00 | value
+                };
+                depth -= 3;
+                pc += 1;
+            }
+
+            // "270, 271, 272: c plus, minus, times a modulo 65,536. 273, 274
+            // quotient, remainder; a = 0 is trap 36."
+            0o270 => two!(|c, a| c.wrapping_add(a)),
+            0o271 => two!(|c, a| c.wrapping_sub(a)),
+            0o272 => two!(|c, a| c.wrapping_mul(a)),
+            0o273 => {
+                divisor!(word!(1));
+                two!(|c, a| c / a)
+            }
+            0o274 => {
+                divisor!(word!(1));
+                two!(|c, a| c % a)
+            }
+            // "252–255 unsigned <, ≤, >, ≥ of c to a. [...] Truth is 1,
+            // falsehood 0."
+            0o252 => two!(|c, a| u16::from(c < a)),
+            0o253 => two!(|c, a| u16::from(c <= a)),
+            0o254 => two!(|c, a| u16::from(c > a)),
+            0o255 => two!(|c, a| u16::from(c >= a)),
+
+            // "Signed: 330–333 add, subtract, multiply, divide toward zero;
+            // 316 absolute, 317 negate. Zero divisor: 36; a result outside
+            // −32,768 to 32,767: 37."
+            0o330 => two!(|c, a| signed!((c as i16).checked_add(a as i16))),
+            0o331 => two!(|c, a| signed!((c as i16).checked_sub(a as i16))),
+            0o332 => two!(|c, a| signed!((c as i16).checked_mul(a as i16))),
+            0o333 => {
+                divisor!(word!(1));
+                two!(|c, a| signed!((c as i16).checked_div(a as i16)))
+            }
+            0o316 => one!(|a| signed!((a as i16).checked_abs())),
+            0o317 => one!(|a| signed!((a as i16).checked_neg())),
+            // "310, 311 equal, unequal; 312–315 <, ≤, >, ≥."
+            0o310 => two!(|c, a| u16::from(c == a)),
+            0o311 => two!(|c, a| u16::from(c != a)),
+            0o312 => two!(|c, a| u16::from((c as i16) < a as i16)),
+            0o313 => two!(|c, a| u16::from(c as i16 <= a as i16)),
+            0o314 => two!(|c, a| u16::from(c as i16 > a as i16)),
+            0o315 => two!(|c, a| u16::from(c as i16 >= a as i16)),
+
+            // "320 or, 321 exclusive or, 322 and, 323 complement, 327: 1 if
+            // a = 0, else 0."
+            0o320 => two!(|c, a| c | a),
+            0o321 => two!(|c, a| c ^ a),
+            0o322 => two!(|c, a| c & a),
+            0o323 => one!(|a| !a),
+            0o327 => one!(|a| u16::from(a == 0)),
+            // "276, 277 shift c left or right by a (16 or more gives 0); 275
+            // rotates c right by a modulo 16."
+            0o275 => two!(|c, a| c.rotate_right(u32::from(a % 16))),
+            0o276 => two!(|c, a| c.checked_shl(u32::from(a)).unwrap_or(0)),
+            0o277 => two!(|c, a| c.checked_shr(u32::from(a)).unwrap_or(0)),
+
+            // "305: a high, c low, e stays; signed e outside is trap 38; 245
+            // unsigned; 306 a high, c stays, low 0, unsigned."
+            0o305 => {
+                if !(word!(2) as i16..=word!(1) as i16).contains(&(word!(3) as i16)) {
+                    break (number::CHECK, 0);
+                }
+                depth -= 2;
+                pc += 1;
+            }
+            0o245 => {
+                if !(word!(2)..=word!(1)).contains(&word!(3)) {
+                    break (number::CHECK, 0);
+                }
+                depth -= 2;
+                pc += 1;
+            }
+            0o306 => {
+                if word!(2) > word!(1) {
+                    break (number::CHECK, 0);
+                }
+                depth -= 1;
+                pc += 1;
+            }
+            // "265 doubles a. 336 nothing."
+            0o265 => {
+                put!(word!(1));
+                pc += 1;
+            }
+            0o336 => pc += 1,
+
+            // "240: a channel, c address: the store word becomes that input.
+            // 241: output channel c becomes a. Channel above 15 is 39, before
+            // 32. 304: trap 40 with code a."
+            0o240 => {
+                let Some(&input) = inputs.get(usize::from(word!(1))) else {
+                    break (number::CHANNEL, 0);
+                };
+                *at!(word!(2), 0u8) = input;
+                depth -= 2;
+                pc += 1;
+            }
+            0o241 => {
+                let Some(output) = outputs.get_mut(usize::from(word!(2))) else {
+                    break (number::CHANNEL, 0);
+                };
+                *output = word!(1);
+                depth -= 2;
+                pc += 1;
+            }
+            0o304 => break (number::PROGRAM, word!(1)),
+
+            // "353 b: S+b above H is 33, else S += b. 350 b: from L, b times
+            // the word at that address; puts it. 351 is 350 with 1."
+            0o353 => {
+                let raised = u32::from(s) + u32::from(byte!(1));
+                if raised > u32::from(h) {
+                    break (number::STACK_LIMIT, 0);
+                }
+                s = raised as u16;
+                pc += 2;
+            }
+            0o350 => {
+                let Some(address) = follow_links(store, l, byte!(1)) else {
+                    break (number::ADDRESS, 0);
+                };
+                put!(address);
+                pc += 2;
+            }
+            0o351 => load!(l, 0u8, 1),
+
+            // "Calls 360 n, 361–377 procedure 1–15, 356 n (a is the link),
+            // 355 m n. [...] link (L; a; G for 355), L, next position (+8000
+            // hex for 355)"
+            0o355 => {
+                mark!(here.base, (pc + 3) as u16 + Machine::FAR);
+                let number = byte!(2);
+                module = byte!(1);
+                here = Here::new(program, image, map, module);
+                pc = usize::from(here.procedures[usize::from(number)].entry);
+            }
+            0o356 => {
+                mark!(word!(1), pc + 2);
+                depth -= 1;
+                pc = usize::from(here.procedures[usize::from(byte!(1))].entry);
+            }
+            0o360 => {
+                mark!(l, pc + 2);
+                pc = usize::from(here.procedures[usize::from(byte!(1))].entry);
+            }
+            0o361..=0o377 => {
+                mark!(l, pc + 1);
+                pc = usize::from(here.procedures[usize::from(low)].entry);
+            }
+
+            // "354: L above H is 34. Word L+2 of 7FFF hex ends. Below 8000 hex
+            // it is a position here, else minus 8000 hex in the module whose
+            // base is word L. No such module, or no mark equal to the current
+            // depth there: 34. S = L, L = word L+1."
+            0o354 => {
+                if l > h {
+                    break (number::RETURN_MARK, 0);
+                }
+                // H + 24 ≤ W, so the mark lies in the store.
+                let frame = usize::from(l);
+                let mark = &store[frame..frame + 3];
+                let (base, dynamic_link, position) = (mark[0], mark[1], mark[2]);
+                if position == Machine::END_MARK {
+                    break (number::ENDED, 0);
+                }
+                if position < Machine::FAR {
+                    let position = usize::from(position);
+                    if here.marks.get(position) != Some(&(depth as u8)) {
+                        break (number::RETURN_MARK, 0);
+                    }
+                    pc = position;
+                } else {
+                    let position = position - Machine::FAR;
+                    let Some(target) = marked(program, map, base, position, depth as u8) else {
+                        break (number::RETURN_MARK, 0);
+                    };
+                    module = target;
+                    here = Here::new(program, image, map, module);
+                    pc = usize::from(position);
+                }
+                s = l;
+                l = dynamic_link;
+            }
+
+            0o256 => match transfer(program, map, store, &gather!(), byte!(1) != 0) {
+                Err(trap) => break (trap, 0),
+                Ok(resumed) => {
+                    Machine {
+                        module,
+                        p,
+                        l,
+                        s,
+                        h,
+                        m,
+                        stack,
+                        ..
+                    } = resumed;
+                    pc = usize::from(resumed.pc);
+                    depth = usize::from(resumed.depth);
+                    here = Here::new(program, image, map, module);
+                }
+            },
+
+            _ => unreachable!("a marked position holds a listed opcode"),
+        }
+        observer.done(opcode);
+        left -= 1;
+    };
+    // "zeros above its depth"
+    stack[depth..].fill(0);
+    RunAnswer {
+        number: stop,
+        code,
+        count: n - left,
+        machine: gather!(),
+    }
+}
+
+/// "from L, b times the word at that address"
+fn follow_links(store: &[u16], l: u16, b: u8) -> Option<u16> {
+    let mut address = l;
+    for _ in 0..b {
+        address = *store.get(usize::from(address))?;
+    }
+    Some(address)
+}
+
+/// The module whose base is this word, if the position is marked there with
+/// this depth: for returns and transfers.
+fn marked(program: &Program, map: &[u8], base: u16, position: u16, depth: u8) -> Option<u8> {
+    let module = program.module_at(base)?;
+    (program.mark(map, module, position) == Some(depth)).then_some(module as u8)
+}
+
+/// "256 b, TRANSFER: a and c are addresses (32, a first); q = word a." Answers
+/// the machine after the instruction, or the trap.
+#[cold]
+fn transfer(
+    program: &Program,
+    map: &[u8],
+    store: &mut [u16],
+    machine: &Machine,
+    change_mask: bool,
+) -> Result<Machine, u8> {
+    let depth = usize::from(machine.depth) - 2;
+    let to = usize::from(machine.stack[depth + 1]);
+    let from = usize::from(machine.stack[depth]);
+    if to >= store.len() || from >= store.len() {
+        return Err(number::ADDRESS);
+    }
+    let mut saved = Machine {
+        pc: machine.pc + 2,
+        depth: depth as u8,
+        ..*machine
+    };
+    let q = store[to];
+    // "If q = P, word c becomes P and no more."
+    if q == saved.p {
+        store[from] = saved.p;
+        return Ok(saved);
+    }
+    // "reading the store as before the instruction": all of it is read here,
+    // before the first write.
+    let mut restored = read_process(program, map, store, q).ok_or(number::PROCESS)?;
+    if !change_mask {
+        restored.m = saved.m;
+    }
+    // "Then save: the remaining stack from S up, top first, then its count; S
+    // raised past it; G, L, next position, M, S, H+24 to P..P+5. Word c = P;
+    // P = q. [...] Colliding writes keep the last in this order."
+    for &word in saved.stack[..depth].iter().rev() {
+        store[usize::from(saved.s)] = word;
+        saved.s += 1;
+    }
+    store[usize::from(saved.s)] = depth as u16;
+    saved.s += 1;
+    let base = program.modules[usize::from(saved.module)].base as u16;
+    let record = [
+        base,
+        saved.l,
+        saved.pc,
+        saved.m,
+        saved.s,
+        saved.h + Machine::MARGIN,
+    ];
+    store[usize::from(saved.p)..][..record.len()].copy_from_slice(&record);
+    store[from] = saved.p;
+    Ok(restored)
+}
+
+/// The process whose record is at q, or None for trap 35: "q+8 ≤ W; words q..
+/// are G, L, position, M, s, v; 24 ≤ v ≤ W; 1 ≤ s ≤ W; k = word s−1, k ≤ 16,
+/// k < s; s−1−k ≤ v−24; G a base, position marked k there".
+fn read_process(program: &Program, map: &[u8], store: &[u16], q: u16) -> Option<Machine> {
+    let record = store.get(usize::from(q)..usize::from(q) + Machine::RECORD)?;
+    let &[g, l, position, m, s, v, ..] = record else {
+        return None;
+    };
+    let words = store.len();
+    if v < Machine::MARGIN || usize::from(v) > words || s < 1 || usize::from(s) > words {
+        return None;
+    }
+    let k = store[usize::from(s - 1)];
+    if k > 16 || k >= s {
+        return None;
+    }
+    let lowest = s - 1 - k;
+    let h = v - Machine::MARGIN;
+    if lowest > h {
+        return None;
+    }
+    let module = marked(program, map, g, position, k as u8)?;
+    // "S = s−1−k, H = v−24, the k words": the lowest is the top.
+    let mut stack = [0; 16];
+    let words = &store[usize::from(lowest)..usize::from(s - 1)];
+    for (slot, &word) in stack.iter_mut().zip(words.iter().rev()) {
+        *slot = word;
+    }
+    Some(Machine {
+        module,
+        pc: position,
+        depth: k as u8,
+        p: q,
+        l,
+        s: lowest,
+        h,
+        m,
+        stack,
+    })
+}

@@ -1,0 +1,360 @@
+//! The seeded generator of cases. Case `index` of a seed is always the same.
+
+mod code;
+mod rng;
+mod state;
+
+use crate::assemble::{encode, Source};
+use crate::case::{Case, CaseRun};
+use crate::machine::Machine;
+use code::{program, some_word, Shape};
+use rng::Rng;
+use state::World;
+
+/// One case of a seed.
+pub fn case(seed: u64, index: u64) -> Case {
+    let rng = &mut Rng::for_case(seed, index);
+    let round = index / 32;
+    match index % 32 {
+        0..=9 => program_case(rng),
+        10..=15 => state_case(rng, None),
+        16..=18 => state_case(rng, Some(0o256)),
+        19..=20 => state_case(rng, Some(0o354)),
+        21..=23 => mutant_case(rng),
+        24..=25 => header_case(rng),
+        26 => depth_case(rng),
+        27..=28 => broken_map_case(rng),
+        29 => broken_machine_case(rng),
+        31 if round.is_multiple_of(4) => large_case(rng, round / 4),
+        _ => sizes_case(rng),
+    }
+}
+
+/// The first cases of a seed.
+pub fn cases(seed: u64, count: u64) -> impl Iterator<Item = Case> {
+    (0..count).map(move |index| case(seed, index))
+}
+
+fn any_shape(rng: &mut Rng) -> Shape {
+    Shape {
+        modules: rng.within(1, 4),
+        procedures: rng.within(1, 5),
+        statements: rng.pick(&[2, 6, 12, 24]),
+        data: rng.pick(&[0, 5, 40]),
+        all_opcodes: false,
+        careful: !rng.once_in(3),
+    }
+}
+
+/// Every listed opcode in the main program, sixteen procedures to be called.
+fn full_shape(rng: &mut Rng) -> Shape {
+    Shape {
+        modules: rng.within(2, 3),
+        procedures: rng.within(16, 18),
+        statements: 2,
+        data: 20,
+        all_opcodes: true,
+        careful: rng.once_in(2),
+    }
+}
+
+/// A case with the ordinary buffers and no runs.
+fn case_of(rng: &mut Rng, image: Vec<u8>, store_length: usize) -> Case {
+    let past = rng.pick(&[0, 0, 1, 7]);
+    Case {
+        map_length: image.len() + past,
+        map_fill: rng.byte(),
+        store_length,
+        store_fill: rng.word(),
+        outputs: words(rng, 16),
+        image,
+        runs: Vec::new(),
+    }
+}
+
+fn words(rng: &mut Rng, count: usize) -> Vec<u16> {
+    (0..count).map(|_| some_word(rng)).collect()
+}
+
+fn plain_run(rng: &mut Rng, budget: usize) -> CaseRun {
+    CaseRun {
+        budget: budget as u32,
+        inputs: words(rng, 16),
+        ..CaseRun::default()
+    }
+}
+
+/// A few runs in a row, with the same machine all along.
+fn plain_runs(rng: &mut Rng) -> Vec<CaseRun> {
+    (0..rng.within(1, 5))
+        .map(|_| {
+            let most = rng.pick(&[1, 3, 20, 300, 2000]);
+            let budget = rng.within(0, most);
+            plain_run(rng, budget)
+        })
+        .collect()
+}
+
+/// An accepted program from its start on, with processes to transfer to.
+fn program_case(rng: &mut Rng) -> Case {
+    let shape = if rng.once_in(4) {
+        full_shape(rng)
+    } else {
+        any_shape(rng)
+    };
+    let world = World::new(rng, &shape);
+    let mut case = case_of(rng, world.image.clone(), world.words);
+    case.runs = plain_runs(rng);
+    case.runs[0].store_patches = world.processes(rng);
+    case
+}
+
+/// Single steps, or a few, from machines at any marked position.
+fn state_case(rng: &mut Rng, opcode: Option<u8>) -> Case {
+    let shape = full_shape(rng);
+    let world = World::new(rng, &shape);
+    let mut case = case_of(rng, world.image.clone(), world.words);
+    for _ in 0..24 {
+        let budget = rng.pick(&[1, 1, 1, 2, 5, 30]);
+        let mut run = plain_run(rng, budget);
+        world.set_state(rng, opcode, &mut run);
+        case.runs.push(run);
+    }
+    case
+}
+
+/// An accepted image with a few bytes changed, cut off or appended.
+fn mutant_case(rng: &mut Rng) -> Case {
+    let shape = any_shape(rng);
+    let mut image = encode(&program(rng, &shape));
+    for _ in 0..rng.within(1, 3) {
+        let position = rng.below(image.len());
+        match rng.below(6) {
+            0 => image[position] ^= 1 << rng.below(8),
+            1 => image[position] = rng.byte(),
+            2 => {
+                let header = rng.below(image.len().min(12));
+                image[header] = image[header].wrapping_add(rng.pick(&[1, 255, 4]));
+            }
+            3 => image.truncate(position.max(1)),
+            4 => image.extend((0..rng.within(1, 3)).map(|_| rng.byte())),
+            _ => {
+                image.insert(position, rng.byte());
+            }
+        }
+    }
+    let mut case = case_of(rng, image, 1000);
+    case.runs = plain_runs(rng);
+    case
+}
+
+/// Headers with one fault or more, mostly at a known place.
+fn header_case(rng: &mut Rng) -> Case {
+    let shape = any_shape(rng);
+    let mut modules = program(rng, &shape);
+    let at = rng.below(modules.len());
+    let module = &mut modules[at];
+    let length = module.code.len() as u16;
+    let fault = rng.below(12);
+    match fault {
+        0 => module.code.clear(),
+        1 => module.code.resize(rng.pick(&[32_768, 40_000]), 0o336),
+        2..=5 => {
+            if module.procedures.is_empty() {
+                module.procedures.push(crate::image::Procedure {
+                    entry: 0,
+                    parameters: 0,
+                    results: 0,
+                });
+            }
+            let number = rng.below(module.procedures.len());
+            let procedure = &mut module.procedures[number];
+            match fault {
+                2 => procedure.entry = rng.pick(&[length, length + 1, 65_535]),
+                3 => procedure.parameters = rng.pick(&[17, 1, 255]),
+                4 => procedure.results = rng.pick(&[5, 255]),
+                _ => procedure.parameters = 1,
+            }
+        }
+        _ => {}
+    }
+    let mut image = encode(&modules);
+    match fault {
+        6 => image[0] = rng.pick(&[0, 33, 32, 255]),
+        7 => image[1] |= 1 << rng.within(3, 7),
+        8 => image.truncate(rng.below(image.len().min(24))),
+        9 => image.push(0),
+        10 => image = (0..rng.below(30)).map(|_| rng.byte() & 7).collect(),
+        11 if image[1] & 2 != 0 => {
+            let count = 2 + 2 * usize::from(image[1] & 1);
+            image[count] = 0;
+            image.truncate(rng.within(count + 1, image.len()));
+        }
+        _ => {}
+    }
+    let mut case = case_of(rng, image, 1000);
+    case.runs = vec![plain_run(rng, 10)];
+    case
+}
+
+/// Code of listed opcodes in no order: most fits no depths.
+fn depth_case(rng: &mut Rng) -> Case {
+    const FRIENDLY: [u8; 12] = [
+        0o000, 0o001, 0o003, 0o032, 0o033, 0o034, 0o035, 0o036, 0o265, 0o270, 0o336, 0o354,
+    ];
+    let modules: Vec<Source> = (0..rng.within(1, 3))
+        .map(|_| {
+            let mut code: Vec<u8> = (0..rng.within(1, 12))
+                .map(|_| match rng.below(4) {
+                    0 => rng.byte(),
+                    _ => rng.pick(&FRIENDLY),
+                })
+                .collect();
+            code.push(0o354);
+            Source::plain(&code)
+        })
+        .collect();
+    let mut case = case_of(rng, encode(&modules), 400);
+    case.runs = plain_runs(rng);
+    case
+}
+
+/// Maps that somebody has altered, one run after another.
+fn broken_map_case(rng: &mut Rng) -> Case {
+    let shape = any_shape(rng);
+    let world = World::new(rng, &shape);
+    let mut case = case_of(rng, world.image.clone(), world.words);
+    for _ in 0..8 {
+        let mut run = plain_run(rng, 5);
+        let offset = rng.below(world.image.len());
+        let byte = match rng.below(4) {
+            0 => rng.byte(),
+            1 => 0xFF,
+            2 => rng.pick(&[0, 1, 16, 17, 254]),
+            // One that may fit where it was unmarked.
+            _ => rng.below(4) as u8,
+        };
+        run.map_patches.push((offset as u16, byte));
+        case.runs.push(run);
+        let mut good = plain_run(rng, 3);
+        good.map_patches.push((offset as u16, world.map[offset]));
+        case.runs.push(good);
+    }
+    case
+}
+
+/// Machines that are none, for one reason or more.
+fn broken_machine_case(rng: &mut Rng) -> Case {
+    let shape = any_shape(rng);
+    let world = World::new(rng, &shape);
+    let mut case = case_of(rng, world.image.clone(), world.words);
+    let words = world.words as u16;
+    for _ in 0..16 {
+        let mut run = plain_run(rng, 3);
+        world.set_state(rng, None, &mut run);
+        let mut machine = run.machine.unwrap_or_default();
+        for _ in 0..rng.pick(&[0, 1, 1, 1, 2]) {
+            break_machine(rng, &mut machine, words);
+        }
+        run.machine = Some(machine);
+        case.runs.push(run);
+    }
+    case
+}
+
+fn break_machine(rng: &mut Rng, machine: &mut Machine, words: u16) {
+    match rng.below(8) {
+        0 => machine.module = rng.byte(),
+        1 => machine.pc = machine.pc.wrapping_add(rng.pick(&[1, 2, 65_535, 300])),
+        2 => machine.depth = rng.pick(&[0, 1, 16, 17, 255, machine.depth.wrapping_add(1)]),
+        3 => machine.s = machine.h.wrapping_add(rng.pick(&[0, 1, 2])),
+        4 => machine.h = words.wrapping_sub(rng.pick(&[24, 23, 0])),
+        5 => machine.p = words.wrapping_sub(rng.pick(&[8, 7, 0])),
+        6 => machine.stack[rng.below(16)] = rng.word(),
+        _ => machine.h = rng.word(),
+    }
+}
+
+/// Stores, maps, inputs and outputs of other lengths.
+fn sizes_case(rng: &mut Rng) -> Case {
+    let shape = any_shape(rng);
+    let world = World::new(rng, &shape);
+    let least = world.least_words();
+    let words = match rng.below(5) {
+        0 => rng.below(least),
+        1 => least - 1,
+        2 => least,
+        3 => rng.pick(&[65_534, 65_535, 65_536]),
+        _ => world.words,
+    };
+    let mut case = case_of(rng, world.image.clone(), words);
+    if rng.once_in(3) {
+        case.map_length = rng.below(case.image.len());
+    }
+    if rng.once_in(3) {
+        let count = rng.pick(&[0, 1, 15, 17]);
+        case.outputs = self::words(rng, count);
+    }
+    for _ in 0..3 {
+        let mut run = plain_run(rng, 20);
+        if rng.once_in(2) {
+            let count = rng.pick(&[0, 1, 15, 17]);
+            run.inputs = self::words(rng, count);
+        }
+        case.runs.push(run);
+    }
+    case
+}
+
+/// The largest sizes, one kind after another.
+fn large_case(rng: &mut Rng, kind: u64) -> Case {
+    let filled = |length: usize| {
+        let mut code = vec![0o336; length];
+        code[length - 1] = 0o354;
+        Source::plain(&code)
+    };
+    let many = |rng: &mut Rng, modules, procedures, data| {
+        let shape = Shape {
+            modules,
+            procedures,
+            statements: 3,
+            data,
+            all_opcodes: false,
+            careful: rng.once_in(2),
+        };
+        program(rng, &shape)
+    };
+    let (image, store_length) = match kind % 8 {
+        // 32 modules in the largest store.
+        0 => (encode(&many(rng, 32, 3, 1900)), 65_535),
+        // One code of 32,767 bytes.
+        1 => (encode(&[filled(32_767)]), 4_096),
+        // 65,535 bytes: 1 + 3 + 32,767 + 3 + 32,761.
+        2 => (encode(&[filled(32_767), filled(32_761)]), 65_535),
+        // One byte more.
+        3 => (encode(&[filled(32_767), filled(32_762)]), 65_535),
+        // Data sizes that no store holds.
+        4 => {
+            let mut modules = many(rng, 3, 2, 10);
+            for module in &mut modules {
+                module.data_size = rng.within(21_000, 65_535) as u16;
+            }
+            (encode(&modules), 65_535)
+        }
+        // 255 procedures in several modules.
+        5 => (encode(&many(rng, 4, 255, 50)), 4_096),
+        // A long code of statements.
+        6 => {
+            let mut modules = many(rng, 2, 200, 50);
+            modules[1] = filled(20_000);
+            (encode(&modules), 8_192)
+        }
+        // One code too long by a byte.
+        _ => (encode(&[filled(32_768)]), 4_096),
+    };
+    let mut case = case_of(rng, image, store_length);
+    for budget in [0, 100, 40_000] {
+        case.runs.push(plain_run(rng, budget));
+    }
+    case
+}

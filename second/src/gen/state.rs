@@ -1,0 +1,398 @@
+//! Machines and stores that no program need have made: every register and
+//! every word that decides something is set by hand.
+
+use super::code::{program, some_word, Shape, PROCESS_NAMES, PROCESS_NAME_COUNT};
+use super::rng::Rng;
+use crate::api;
+use crate::assemble::encode;
+use crate::case::CaseRun;
+use crate::depths::UNMARKED;
+use crate::image::{parse, Program};
+use crate::machine::Machine;
+use crate::opcode;
+
+/// An accepted program and the length of its store.
+pub struct World {
+    pub image: Vec<u8>,
+    pub map: Vec<u8>,
+    pub words: usize,
+    program: Program,
+    places: Vec<Place>,
+}
+
+/// A marked position.
+#[derive(Clone, Copy)]
+struct Place {
+    module: u8,
+    position: u16,
+    depth: u8,
+    opcode: u8,
+}
+
+impl World {
+    /// A random program. Panics if load does not accept it: the generator
+    /// would be wrong.
+    pub fn new(rng: &mut Rng, shape: &Shape) -> World {
+        let image = encode(&program(rng, shape));
+        let mut map = vec![0; image.len()];
+        let number = api::load(&image, &mut map);
+        assert_eq!(number, 0, "the generator wrote a program that load refuses");
+        let program = parse(&image).expect("load has parsed it");
+        let places = places(&program, &image, &map);
+        let least = program.z as usize + Machine::LEAST_BEYOND_Z;
+        let words = match rng.below(8) {
+            // A careful program wants room for its frames.
+            1.. if shape.careful && !shape.all_opcodes => least + rng.within(500, 4000),
+            0 => least,
+            1 | 2 => least + rng.below(80),
+            3 => 65_535,
+            _ => least + rng.within(200, 2000),
+        };
+        World {
+            image,
+            map,
+            words,
+            program,
+            places,
+        }
+    }
+
+    /// The least store that start accepts.
+    pub fn least_words(&self) -> usize {
+        self.program.z as usize + Machine::LEAST_BEYOND_Z
+    }
+
+    fn any_place(&self, rng: &mut Rng) -> Place {
+        rng.pick(&self.places)
+    }
+
+    /// A place that satisfies the condition, if there is one.
+    fn place_where(&self, rng: &mut Rng, condition: impl Fn(&Place) -> bool) -> Option<Place> {
+        let found: Vec<Place> = self.places.iter().copied().filter(condition).collect();
+        (!found.is_empty()).then(|| rng.pick(&found))
+    }
+
+    fn base(&self, module: u8) -> u16 {
+        self.program.modules[usize::from(module)].base as u16
+    }
+
+    /// An address of the store, seldom none.
+    fn address(&self, rng: &mut Rng) -> u16 {
+        match rng.below(12) {
+            0 => (self.words + rng.below(3)) as u16,
+            1 => (self.words - 1) as u16,
+            2 => some_word(rng),
+            _ => rng.below(self.words) as u16,
+        }
+    }
+
+    /// Sets a run's machine at a marked position, of this opcode or of any
+    /// listed one, and store words to go with it.
+    pub fn set_state(&self, rng: &mut Rng, opcode: Option<u8>, run: &mut CaseRun) {
+        let opcode = opcode.unwrap_or_else(|| self.any_opcode(rng));
+        let place = self
+            .place_where(rng, |place| place.opcode == opcode)
+            .unwrap_or_else(|| self.any_place(rng));
+        let mut machine = self.machine_at(rng, place);
+        for _ in 0..rng.below(4) {
+            let address = rng.below(self.words) as u16;
+            run.store_patches.push((address, some_word(rng)));
+        }
+        match place.opcode {
+            opcode::TRA => self.set_transfer(rng, &mut machine, run),
+            opcode::RTN => self.set_return(rng, &mut machine, run),
+            opcode => self.set_operands(rng, opcode, &mut machine),
+        }
+        run.machine = Some(machine);
+    }
+
+    fn any_opcode(&self, rng: &mut Rng) -> u8 {
+        loop {
+            let opcode = rng.byte();
+            if opcode::row(opcode).length != 0 {
+                return opcode;
+            }
+        }
+    }
+
+    fn machine_at(&self, rng: &mut Rng, place: Place) -> Machine {
+        let highest = self.words - usize::from(Machine::MARGIN);
+        let h = match rng.below(3) {
+            0 => rng.within(0, highest),
+            _ => highest,
+        };
+        let s = match rng.below(3) {
+            0 => h - rng.below(6).min(h),
+            _ => rng.within(0, h),
+        };
+        let p = match rng.below(3) {
+            0 => rng.within(0, self.words - Machine::RECORD),
+            1 => self.words - Machine::RECORD,
+            _ => self.program.z as usize,
+        };
+        let l = match rng.below(8) {
+            0 => self.address(rng),
+            1 => (self.words + rng.below(30)) as u16,
+            2 => h as u16,
+            _ => rng.within(0, h) as u16,
+        };
+        let mut machine = Machine {
+            module: place.module,
+            pc: place.position,
+            depth: place.depth,
+            p: p as u16,
+            l,
+            s: s as u16,
+            h: h as u16,
+            m: rng.word(),
+            stack: [0; 16],
+        };
+        for word in &mut machine.stack[..usize::from(place.depth)] {
+            *word = some_word(rng);
+        }
+        machine
+    }
+
+    /// Mostly good words for an opcode that takes some.
+    fn set_operands(&self, rng: &mut Rng, opcode: u8, machine: &mut Machine) {
+        let depth = usize::from(machine.depth);
+        let mut set = |from_top: usize, word: u16| machine.stack[depth - from_top] = word;
+        if rng.once_in(4) {
+            return;
+        }
+        match opcode {
+            0o140..=0o157 | 0o200 => set(1, self.address(rng)),
+            0o160..=0o177 | 0o220 => set(2, self.address(rng)),
+            0o205 | 0o206 => {
+                let index = some_word(rng);
+                let words = if opcode == 0o205 { index / 2 } else { index };
+                set(1, index);
+                set(2, self.address(rng).wrapping_sub(words));
+            }
+            0o225 | 0o226 => {
+                let index = some_word(rng);
+                let words = if opcode == 0o225 { index / 2 } else { index };
+                set(2, index);
+                set(3, self.address(rng).wrapping_sub(words));
+            }
+            0o240 => {
+                set(1, rng.below(17) as u16);
+                set(2, self.address(rng));
+            }
+            0o241 => set(2, rng.below(17) as u16),
+            0o245 | 0o305 => {
+                let low = some_word(rng);
+                let high = low.wrapping_add(rng.below(50) as u16);
+                set(1, high);
+                set(2, low);
+                set(3, low.wrapping_add(rng.below(60) as u16).wrapping_sub(4));
+            }
+            0o306 => {
+                let high = some_word(rng);
+                set(1, high);
+                set(2, high.wrapping_add(rng.below(5) as u16).wrapping_sub(3));
+            }
+            0o273 | 0o274 => set(1, rng.below(5) as u16),
+            0o330..=0o333 => {
+                let limits = [0x8000, 0x7FFF, 0xFFFF, 1, 0, 2, 0x8001, 180, 0xFF00];
+                set(1, rng.pick(&limits));
+                set(2, rng.pick(&limits));
+                if rng.once_in(4) {
+                    set(1, 0xFFFF);
+                    set(2, 0x8000);
+                }
+            }
+            0o275..=0o277 => set(1, rng.below(20) as u16),
+            0o310..=0o315 | 0o252..=0o255 => {
+                let word = some_word(rng);
+                set(1, word);
+                set(2, word.wrapping_add(rng.pick(&[0, 1, 65_535, 0x8000])));
+            }
+            0o316 | 0o317 => set(1, rng.pick(&[0x8000, 0x7FFF, 0xFFFF, 0x8001, 5])),
+            _ => {}
+        }
+    }
+
+    /// Return marks: good ones here and far, the end, and each bad kind.
+    fn set_return(&self, rng: &mut Rng, machine: &mut Machine, run: &mut CaseRun) {
+        if rng.once_in(12) {
+            // L above H, or anywhere.
+            let anywhere = some_word(rng);
+            machine.l = rng.pick(&[machine.h.wrapping_add(1), 65_535, anywhere]);
+        } else {
+            machine.l = rng.within(0, usize::from(machine.h)) as u16;
+        }
+        if usize::from(machine.l) + 3 > self.words {
+            return;
+        }
+        let same_depth = |place: &Place| place.depth == machine.depth;
+        let place = match rng.below(3) {
+            0 => Some(self.any_place(rng)),
+            1 => self.place_where(rng, |place| {
+                same_depth(place) && place.module == machine.module
+            }),
+            _ => self.place_where(rng, same_depth),
+        };
+        let place = place.unwrap_or_else(|| self.any_place(rng));
+        let base = self.base(place.module);
+        let far = place.position | Machine::FAR;
+        let (base, position) = match rng.below(12) {
+            0 => (base, Machine::END_MARK),
+            1 => (some_word(rng), some_word(rng)),
+            2 => (base.wrapping_add(1), far),
+            3 => (base, far.wrapping_add(1)),
+            4 => (base, 0xFFFF),
+            5 | 6 => (some_word(rng), place.position),
+            7 if machine.module == place.module => (base, place.position),
+            _ => (base, far),
+        };
+        let l = machine.l;
+        let link = self.address(rng);
+        run.store_patches
+            .extend([(l, base), (l + 1, link), (l + 2, position)]);
+    }
+
+    /// Processes to transfer to, good and bad, and addresses that collide.
+    fn set_transfer(&self, rng: &mut Rng, machine: &mut Machine, run: &mut CaseRun) {
+        let near = |rng: &mut Rng, word: u16, distance: usize| {
+            let sum = usize::from(word) + rng.below(distance);
+            sum.min(self.words - 1) as u16
+        };
+        let last_record = self.words - Machine::RECORD;
+        let q = match rng.below(8) {
+            0 => machine.p,
+            1 => near(rng, machine.p, 8).min(last_record as u16),
+            2 => near(rng, machine.s, 6).min(last_record as u16),
+            3 => last_record as u16,
+            _ => rng.below(last_record) as u16,
+        };
+        let to = self.address(rng);
+        let mut patches = self.process(rng, q);
+        if rng.once_in(3) {
+            self.spoil_process(rng, q, &mut patches);
+        }
+        let s = patches[4].1;
+        let from = match rng.below(8) {
+            0 => near(rng, machine.p, 8),
+            1 => near(rng, machine.s, 16),
+            2 => near(rng, q, 8),
+            3 => to,
+            4 => s.wrapping_sub(1),
+            _ => self.address(rng),
+        };
+        let depth = usize::from(machine.depth);
+        machine.stack[depth - 1] = to;
+        machine.stack[depth - 2] = from;
+        // The name of the process mostly comes last, so that it stays.
+        let name = (
+            to,
+            if rng.once_in(16) {
+                self.address(rng)
+            } else {
+                q
+            },
+        );
+        if rng.once_in(6) {
+            patches.insert(0, name);
+        } else {
+            patches.push(name);
+        }
+        let inside = |&(address, _): &(u16, u16)| usize::from(address) < self.words;
+        run.store_patches
+            .extend(patches.iter().filter(|p| inside(p)));
+    }
+
+    /// The store words of a good process: its record of six words first.
+    fn process(&self, rng: &mut Rng, q: u16) -> Vec<(u16, u16)> {
+        let place = self.any_place(rng);
+        let highest = self.words - usize::from(Machine::MARGIN);
+        let lowest = rng.within(0, highest);
+        let between = rng.within(lowest, highest);
+        let h = rng.pick(&[lowest, highest, between]);
+        let depth = usize::from(place.depth);
+        let s = lowest + depth + 1;
+        let v = h + usize::from(Machine::MARGIN);
+        let record = [
+            self.base(place.module),
+            self.address(rng),
+            place.position,
+            rng.word(),
+            s as u16,
+            v as u16,
+        ];
+        let mut patches: Vec<(u16, u16)> = (q..=u16::MAX).zip(record).collect();
+        // The words below the count may lie over the record; that is random
+        // enough. The count is the last, so that it stays.
+        for i in 0..depth {
+            patches.push(((lowest + i) as u16, some_word(rng)));
+        }
+        patches.push(((s - 1) as u16, place.depth.into()));
+        patches
+    }
+
+    /// Breaks one of the conditions of trap 35.
+    fn spoil_process(&self, rng: &mut Rng, q: u16, patches: &mut Vec<(u16, u16)>) {
+        let words = self.words as u16;
+        let (s, v) = (patches[4].1, patches[5].1);
+        let count = patches.len() - 1;
+        match rng.below(10) {
+            0 => patches[0].1 = patches[0].1.wrapping_add(1),
+            1 => patches[2].1 = patches[2].1.wrapping_add(1),
+            2 => patches[2].1 = rng.word(),
+            3 => patches[4].1 = rng.pick(&[0, words.wrapping_add(1), 65_535]),
+            4 => patches[5].1 = rng.pick(&[0, 23, words.wrapping_add(1), 65_535]),
+            // s − 1 − k is just above v − 24.
+            5 => patches[5].1 = (s - 1 - patches[count].1) + Machine::MARGIN - 1,
+            6 => patches[count].1 = rng.pick(&[17, 255, 65_535, patches[count].1 + 1]),
+            // k is s or more.
+            7 => {
+                patches[4].1 = 3;
+                patches.push((2, 3));
+            }
+            8 => patches[5].1 = v.wrapping_sub(1),
+            _ => {
+                // The record is cut off by the store's end.
+                let shift = words.wrapping_sub(7).wrapping_sub(q);
+                patches.iter_mut().take(6).for_each(|(address, _)| {
+                    *address = address.wrapping_add(shift);
+                });
+            }
+        }
+    }
+
+    /// Store words that name processes for the transfers of a program.
+    pub fn processes(&self, rng: &mut Rng) -> Vec<(u16, u16)> {
+        let mut patches = Vec::new();
+        for name in 0..4 {
+            let record = PROCESS_NAMES + PROCESS_NAME_COUNT + 8 * name;
+            let q = match rng.below(5) {
+                0 => self.program.z as u16,
+                1 => some_word(rng),
+                _ => {
+                    patches.extend(self.process(rng, record));
+                    record
+                }
+            };
+            patches.push((PROCESS_NAMES + name, q));
+        }
+        patches
+    }
+}
+
+fn places(program: &Program, image: &[u8], map: &[u8]) -> Vec<Place> {
+    let mut places = Vec::new();
+    for (number, module) in program.modules.iter().enumerate() {
+        for position in 0..module.code_length {
+            let depth = map[module.code_start + position];
+            if depth != UNMARKED {
+                places.push(Place {
+                    module: number as u8,
+                    position: position as u16,
+                    depth,
+                    opcode: image[module.code_start + position],
+                });
+            }
+        }
+    }
+    places
+}

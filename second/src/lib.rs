@@ -1,0 +1,23 @@
+//! A second interpreter of M-code, written from the paper alone, against which
+//! another engine is compared.
+//!
+//! [`load`], [`start`] and [`run`] are the paper's calls, [`desk`] is its "A
+//! whole reading". Octal literals are the paper's opcodes, and quotations in
+//! comments are its sentences.
+
+#![forbid(unsafe_code)]
+
+pub mod api;
+pub mod assemble;
+pub mod case;
+pub mod coverage;
+pub mod depths;
+pub mod exec;
+pub mod gen;
+pub mod image;
+pub mod machine;
+pub mod number;
+pub mod opcode;
+
+pub use api::{desk, load, run, start, RunAnswer};
+pub use machine::Machine;

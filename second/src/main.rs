@@ -1,0 +1,222 @@
+//! The command line of the second interpreter.
+
+use second::assemble::{encode, Source};
+use second::{case, coverage::Coverage, gen, load};
+use std::ffi::{OsStr, OsString};
+use std::fs::File;
+use std::io::{self, Read, Write};
+use std::process::ExitCode;
+use std::time::Instant;
+
+const HELP: &str = "\
+A second interpreter of M-code.
+
+usage: second reading [FILE]
+           print the desk's reading of an image, from FILE or standard input
+       second map FILE
+           print load's number and, if it accepts, the map in hex
+       second coverage [--seed N] [--cases N]
+           replay generated cases and print what they reach; exit 1 if an
+           opcode, a stop or a refusal is missing
+       second cases [--seed N] [--count N] OUT
+           write generated cases to the file OUT
+       second expect CASES
+           print what this interpreter says about each case of a file
+       second speed
+           time a small loop, and load and run's tests of a long image
+       second --help
+           print this
+
+N is a decimal number. Seeds are 1 unless given, cases 2000.
+Exit status: 0, or 1 where coverage misses something, or 2 after an error.
+";
+
+/// Answers the exit status, or a message for standard error.
+type Answer = Result<u8, String>;
+
+fn main() -> ExitCode {
+    let arguments: Vec<OsString> = std::env::args_os().skip(1).collect();
+    match command(&arguments) {
+        Ok(status) => ExitCode::from(status),
+        Err(message) => {
+            eprintln!("second: {message}");
+            ExitCode::from(2)
+        }
+    }
+}
+
+fn command(arguments: &[OsString]) -> Answer {
+    let Some((name, rest)) = arguments.split_first() else {
+        return Err("no command; second --help lists them".into());
+    };
+    match (name.to_str().unwrap_or_default(), rest) {
+        ("reading", []) => print(&second::desk(&read_image(io::stdin(), "standard input")?)),
+        ("reading", [file]) => print(&second::desk(&read_image(open(file)?, &name_of(file))?)),
+        ("map", [file]) => print_map(&read_image(open(file)?, &name_of(file))?),
+        ("coverage", _) => coverage(rest),
+        ("cases", _) => write_cases(rest),
+        ("expect", [file]) => expect(file),
+        ("speed", []) => speed(),
+        ("--help" | "-h" | "help", []) => print(HELP),
+        ("reading" | "map" | "expect" | "speed" | "--help" | "-h" | "help", _) => Err(format!(
+            "wrong number of arguments to {}; second --help lists them",
+            name_of(name)
+        )),
+        _ => Err(format!(
+            "no command {}; second --help lists them",
+            name_of(name)
+        )),
+    }
+}
+
+fn name_of(argument: &OsStr) -> String {
+    argument.to_string_lossy().into_owned()
+}
+
+fn print(text: &str) -> Answer {
+    io::stdout()
+        .write_all(text.as_bytes())
+        .map_err(|error| format!("standard output: {error}"))?;
+    Ok(0)
+}
+
+fn open(file: &OsStr) -> Result<File, String> {
+    File::open(file).map_err(|error| format!("{}: {error}", name_of(file)))
+}
+
+fn read_all(from: impl Read, name: &str, most: u64) -> Result<Vec<u8>, String> {
+    let mut bytes = Vec::new();
+    from.take(most)
+        .read_to_end(&mut bytes)
+        .map_err(|error| format!("{name}: {error}"))?;
+    Ok(bytes)
+}
+
+/// An image, or as much of one as shows that it is too long.
+fn read_image(from: impl Read, name: &str) -> Result<Vec<u8>, String> {
+    read_all(from, name, 65_536)
+}
+
+fn print_map(image: &[u8]) -> Answer {
+    let mut map = vec![0; image.len()];
+    let number = load(image, &mut map);
+    let mut text = format!("load {number}\n");
+    if number == 0 {
+        for row in map.chunks(16) {
+            let row: Vec<String> = row.iter().map(|byte| format!("{byte:02X}")).collect();
+            text += &row.join(" ");
+            text.push('\n');
+        }
+    }
+    print(&text)
+}
+
+/// Takes `--name N` options from the arguments; answers their values and the
+/// other arguments.
+fn options<const COUNT: usize>(
+    arguments: &[OsString],
+    names: [&str; COUNT],
+    mut values: [u64; COUNT],
+) -> Result<([u64; COUNT], Vec<OsString>), String> {
+    let mut others = Vec::new();
+    let mut arguments = arguments.iter();
+    while let Some(argument) = arguments.next() {
+        let Some(option) = names.iter().position(|name| argument == name) else {
+            if argument.to_string_lossy().starts_with("--") {
+                return Err(format!("no option {}", name_of(argument)));
+            }
+            others.push(argument.clone());
+            continue;
+        };
+        let value = arguments.next().and_then(|value| value.to_str());
+        values[option] = value
+            .and_then(|value| value.parse().ok())
+            .ok_or_else(|| format!("{} needs a decimal number", names[option]))?;
+    }
+    Ok((values, others))
+}
+
+fn coverage(arguments: &[OsString]) -> Answer {
+    let ([seed, cases], others) = options(arguments, ["--seed", "--cases"], [1, 2000])?;
+    if let [other, ..] = &others[..] {
+        return Err(format!("coverage takes no argument {}", name_of(other)));
+    }
+    let coverage = Coverage::of(gen::cases(seed, cases));
+    print(&coverage.report())?;
+    let faults = coverage.faults();
+    if faults.is_empty() {
+        print("all opcodes, stops and refusals are covered\n")
+    } else {
+        for fault in &faults {
+            print(&format!("missing: {fault}\n"))?;
+        }
+        Ok(1)
+    }
+}
+
+fn write_cases(arguments: &[OsString]) -> Answer {
+    let ([seed, count], others) = options(arguments, ["--seed", "--count"], [1, 2000])?;
+    let [out] = &others[..] else {
+        return Err("cases needs one file to write".into());
+    };
+    if count > u64::from(u32::MAX) {
+        return Err("--count is too large".into());
+    }
+    let cases: Vec<case::Case> = gen::cases(seed, count).collect();
+    std::fs::write(out, case::encode(&cases))
+        .map_err(|error| format!("{}: {error}", name_of(out)))?;
+    Ok(0)
+}
+
+fn expect(file: &OsStr) -> Answer {
+    let name = name_of(file);
+    let bytes = read_all(open(file)?, &name, u64::MAX)?;
+    let cases = case::decode(&bytes).map_err(|error| format!("{name}: {error}"))?;
+    let mut text = String::new();
+    for (number, case) in cases.iter().enumerate() {
+        text += &format!("case {number}\n{}", case::replay(case, &mut ()));
+    }
+    print(&text)
+}
+
+/// The least of several times of the same work, in seconds.
+fn least_time(mut work: impl FnMut()) -> f64 {
+    let time = |_| {
+        let begin = Instant::now();
+        work();
+        begin.elapsed().as_secs_f64()
+    };
+    (0..10).map(time).fold(f64::INFINITY, f64::min)
+}
+
+/// Times the loop `LLW4 LI1 UADD SLW4 JPB`, and load and run's tests of one of
+/// the longest images.
+fn speed() -> Answer {
+    const STEPS: u32 = 20_000_000;
+    let code = [0o353, 1, 0o044, 0o001, 0o270, 0o064, 0o035, 5];
+    let step = time_run(&[Source::plain(&code)], STEPS).1 / f64::from(STEPS);
+    let mut code = vec![0o336; 32_761];
+    code[32_760] = 0o354;
+    let (load, tests) = time_run(&[Source::plain(&code), Source::plain(&code)], 0);
+    print(&format!(
+        "step {:.2} ns\nload of 65,529 bytes {:.0} us\nrun's tests of them {:.0} us\n",
+        step * 1e9,
+        load * 1e6,
+        tests * 1e6
+    ))
+}
+
+/// The times of load and of a run of n steps.
+fn time_run(modules: &[Source], n: u32) -> (f64, f64) {
+    let image = encode(modules);
+    let mut map = vec![0; image.len()];
+    let load_time = least_time(|| assert_eq!(load(&image, &mut map), 0));
+    let mut store = vec![0; 4_096];
+    let (_, machine) = second::start(&image, &mut store);
+    let mut outputs = [0; 16];
+    let run_time = least_time(|| {
+        let answer = second::run(machine, &image, &map, &mut store, &mut outputs, &[0; 16], n);
+        assert_eq!(answer.count, n);
+    });
+    (load_time, run_time)
+}

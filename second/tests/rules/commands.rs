@@ -1,0 +1,148 @@
+//! The command line.
+
+use std::io::Write;
+use std::path::PathBuf;
+use std::process::{Command, Output, Stdio};
+
+fn second(arguments: &[&str], input: &[u8]) -> Output {
+    let mut child = Command::new(env!("CARGO_BIN_EXE_second"))
+        .args(arguments)
+        .stdin(Stdio::piped())
+        .stdout(Stdio::piped())
+        .stderr(Stdio::piped())
+        .spawn()
+        .unwrap();
+    // It may end before it has read everything.
+    let _ = child.stdin.take().unwrap().write_all(input);
+    child.wait_with_output().unwrap()
+}
+
+fn text(bytes: &[u8]) -> &str {
+    std::str::from_utf8(bytes).unwrap()
+}
+
+/// A file of this test's own in the build's directory for such files.
+fn file(name: &str, content: &[u8]) -> PathBuf {
+    let path = PathBuf::from(env!("CARGO_TARGET_TMPDIR")).join(name);
+    std::fs::write(&path, content).unwrap();
+    path
+}
+
+const EXAMPLE: [u8; 8] = [0x01, 0x00, 0x00, 0x04, 0x02, 0x07, 0xA1, 0xEC];
+const READING: &str =
+    "stop 31 code 0 steps 3 module 0 pc 3 depth 0\n0 0 7 0 0 0 0 0 0 0 0 0 0 0 0 0\n";
+
+#[test]
+fn reading() {
+    let output = second(&["reading"], &EXAMPLE);
+    assert_eq!(
+        (text(&output.stdout), output.status.code()),
+        (READING, Some(0))
+    );
+    let path = file("example", &EXAMPLE);
+    let output = second(&["reading", path.to_str().unwrap()], &[]);
+    assert_eq!(
+        (text(&output.stdout), output.status.code()),
+        (READING, Some(0))
+    );
+    assert_eq!(text(&second(&["reading"], &[]).stdout), "refused 1\n");
+}
+
+/// The 65,536th byte is seen: with it the image is too long, whatever it says.
+#[test]
+fn reading_sees_the_last_byte() {
+    let image = |length: u16| {
+        let mut image = vec![2, 0, 0x7F, 0xFF];
+        image.resize(4 + 32_767, 0o336);
+        *image.last_mut().unwrap() = 0o354;
+        image.push(0);
+        image.extend(length.to_be_bytes());
+        image.resize(image.len() + usize::from(length), 0o354);
+        image
+    };
+    let longest = image(32_761);
+    assert_eq!(longest.len(), 65_535);
+    let output = second(&["reading"], &longest);
+    assert!(text(&output.stdout).starts_with("stop 30 code 0 steps 1000 module 0 pc 1000 "));
+    assert_eq!(
+        text(&second(&["reading"], &image(32_762)).stdout),
+        "refused 1\n"
+    );
+    let longer = [&longest[..], &[0; 100_000]].concat();
+    assert_eq!(text(&second(&["reading"], &longer).stdout), "refused 1\n");
+}
+
+#[test]
+fn map() {
+    let path = file("mapped", &EXAMPLE);
+    let output = second(&["map", path.to_str().unwrap()], &[]);
+    assert_eq!(text(&output.stdout), "load 0\nFF FF FF FF 00 01 02 00\n");
+    let path = file("unfit", &[1, 0, 0, 1, 2]);
+    let output = second(&["map", path.to_str().unwrap()], &[]);
+    assert_eq!(text(&output.stdout), "load 8\n");
+}
+
+#[test]
+fn cases_and_expect() {
+    let path = file("cases", &[]);
+    let path = path.to_str().unwrap();
+    let output = second(&["cases", "--seed", "5", "--count", "40", path], &[]);
+    assert_eq!(output.status.code(), Some(0));
+    let expected: String = second::gen::cases(5, 40)
+        .enumerate()
+        .map(|(i, case)| format!("case {i}\n{}", second::case::replay(&case, &mut ())))
+        .collect();
+    let output = second(&["expect", path], &[]);
+    assert_eq!(output.status.code(), Some(0));
+    assert_eq!(text(&output.stdout), expected);
+}
+
+#[test]
+fn coverage_that_misses_something_fails() {
+    let output = second(&["coverage", "--seed", "1", "--cases", "1"], &[]);
+    assert_eq!(output.status.code(), Some(1));
+    assert!(text(&output.stdout).contains("missing: load never answered 8\n"));
+}
+
+#[test]
+fn errors_are_one_line_and_status_2() {
+    let no_file = file("cases-not", b"nothing of the kind");
+    let no_file = no_file.to_str().unwrap();
+    let missing = file("removed", &[]);
+    std::fs::remove_file(&missing).unwrap();
+    let missing = missing.to_str().unwrap();
+    for arguments in [
+        &[][..],
+        &["unknown"],
+        &["reading", "a", "b"],
+        &["reading", missing],
+        &["map"],
+        &["map", missing],
+        &["coverage", "--seed"],
+        &["coverage", "--seed", "x"],
+        &["coverage", "--count", "1"],
+        &["coverage", "extra"],
+        &["cases"],
+        &["cases", "a", "b"],
+        &["expect"],
+        &["expect", missing],
+        &["expect", no_file],
+        &["speed", "extra"],
+    ] {
+        let output = second(arguments, &[]);
+        assert_eq!(output.status.code(), Some(2), "{arguments:?}");
+        assert_eq!(text(&output.stdout), "", "{arguments:?}");
+        let message = text(&output.stderr);
+        assert!(message.starts_with("second: "), "{message}");
+        assert_eq!(message.matches('\n').count(), 1, "{message}");
+    }
+}
+
+#[test]
+fn help_names_every_command() {
+    let output = second(&["--help"], &[]);
+    assert_eq!(output.status.code(), Some(0));
+    for command in ["reading", "map", "coverage", "cases", "expect", "speed"] {
+        assert!(text(&output.stdout).contains(&format!("second {command}")));
+    }
+}

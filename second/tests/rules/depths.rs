@@ -1,0 +1,469 @@
+//! The depth rules: hand cases, and the fewest assignment against all others.
+
+use crate::rig::{Rig, WORDS};
+use second::assemble::{encode, Source};
+use second::depths::fits;
+use second::image::{parse, Procedure};
+use second::{load, run};
+
+const FF: u8 = 0xFF;
+
+fn procedure(entry: u16, parameters: u8, results: u8) -> Procedure {
+    Procedure {
+        entry,
+        parameters,
+        results,
+    }
+}
+
+/// Load's marks of a single module's code, or None for refusal 8.
+fn marks(code: &[u8]) -> Option<Vec<u8>> {
+    module_marks(&[Source::plain(code)])
+}
+
+/// Load's marks of the last module.
+fn module_marks(modules: &[Source]) -> Option<Vec<u8>> {
+    let image = encode(modules);
+    let mut map = vec![0x77; image.len()];
+    let length = modules.last().unwrap().code.len();
+    match load(&image, &mut map) {
+        0 => Some(map[image.len() - length..].to_vec()),
+        8 => {
+            assert_eq!(map, vec![FF; image.len()]);
+            None
+        }
+        number => panic!("load {number}"),
+    }
+}
+
+#[test]
+fn operands_lie_in_the_code() {
+    assert_eq!(marks(&[0o020]), None);
+    assert_eq!(marks(&[0o022, 1]), None);
+    assert_eq!(marks(&[0o020, 1]), None);
+    assert_eq!(marks(&[0o020, 1, 0o354]), Some(vec![0, FF, 1]));
+    assert_eq!(marks(&[0o022, 1, 2, 0o354]), Some(vec![0, FF, FF, 1]));
+    // A jump that needs no next position needs its operand.
+    assert_eq!(marks(&[0o033]), None);
+    assert_eq!(marks(&[0o035]), None);
+    assert_eq!(marks(&[0o031, 0xFF]), None);
+    // Not merely in the image: LIB at the end of module 0.
+    assert_eq!(
+        module_marks(&[Source::plain(&[0o020]), Source::plain(&[0o354])]),
+        None
+    );
+}
+
+#[test]
+fn opcodes_are_listed_where_they_are_reached() {
+    assert_eq!(marks(&[0o021]), None);
+    assert_eq!(marks(&[0o033, 2, 0o021, 0o354]), Some(vec![0, FF, FF, 0]));
+}
+
+#[test]
+fn words_taken_are_there() {
+    assert_eq!(marks(&[0o270, 0o354]), None);
+    assert_eq!(marks(&[0o001, 0o270, 0o354]), None);
+    assert_eq!(marks(&[0o001, 0o001, 0o270, 0o354]), Some(vec![0, 1, 2, 1]));
+    assert_eq!(marks(&[0o304]), None);
+}
+
+#[test]
+fn at_most_16_are_left() {
+    // Sixteen literals, COPT puts a seventeenth.
+    let code = |literals: usize, last: u8| [vec![0o001; literals], vec![last, 0o354]].concat();
+    assert!(marks(&code(15, 0o265)).is_some());
+    assert_eq!(marks(&code(16, 0o265)), None);
+    assert!(marks(&code(15, 0o001)).is_some());
+    assert_eq!(marks(&code(16, 0o001)), None);
+    assert!(marks(&code(16, 0o336)).is_some());
+    assert!(marks(&code(16, 0o140)).is_some());
+}
+
+#[test]
+fn successors_lie_in_the_code() {
+    // A jump may come last, other instructions may not.
+    assert_eq!(marks(&[0o336]), None);
+    assert_eq!(marks(&[0o336, 0o035, 2]), Some(vec![0, 0, FF]));
+    assert_eq!(marks(&[0o035, 2]), None);
+    assert_eq!(marks(&[0o033, 1]), None);
+    assert_eq!(marks(&[0o033, 1, 0o354]), Some(vec![0, FF, 0]));
+    assert_eq!(marks(&[0o033, 255, 0o354]), None);
+    assert_eq!(marks(&[0o031, 0xFF, 0xFE]), None);
+    assert_eq!(marks(&[0o031, 0xFF, 0xFF]), Some(vec![0, FF, FF]));
+    assert_eq!(marks(&[0o031, 0x80, 0x00]), None);
+    assert_eq!(marks(&[0o031, 0x7F, 0xFF]), None);
+    // Both ways of a conditional jump.
+    assert_eq!(marks(&[0o001, 0o032, 1]), None);
+    assert_eq!(marks(&[0o001, 0o032, 2, 0o354]), None);
+    assert_eq!(
+        marks(&[0o001, 0o032, 2, 0o336, 0o354]),
+        Some(vec![0, 1, FF, 0, 0])
+    );
+    assert_eq!(marks(&[0o001, 0o034, 2]), None);
+    assert_eq!(marks(&[0o001, 0o034, 2, 0o354]), Some(vec![0, 1, FF, 0]));
+    assert_eq!(
+        marks(&[0o001, 0o030, 0xFF, 0xFE, 0o354]),
+        Some(vec![0, 1, FF, FF, 0])
+    );
+}
+
+#[test]
+fn short_circuit_jumps_leave_1_where_they_jump() {
+    for opcode in [0o036, 0o037] {
+        // The code between puts one word.
+        assert_eq!(
+            marks(&[0o001, opcode, 2, 0o001, 0o354]),
+            Some(vec![0, 1, FF, 0, 1])
+        );
+        // With b = 1 both ways meet at once, with different depths.
+        assert_eq!(marks(&[0o001, opcode, 1, 0o354]), None);
+        // With b = 0 it goes to its own operand, LI0, at depth 1, which then
+        // leads to depth 2 where going on leads to 0.
+        assert_eq!(marks(&[0o001, opcode, 0, 0o354]), None);
+    }
+}
+
+#[test]
+fn operand_bytes_may_be_marked() {
+    // JPF 0 goes to its operand, LI0.
+    assert_eq!(marks(&[0o033, 0, 0o354]), Some(vec![0, 0, 1]));
+}
+
+#[test]
+fn module_and_procedure_operands_exist() {
+    for (good, bad) in [
+        ([0o027, 0, 9], [0o027, 1, 9]),
+        ([0o042, 0, 9], [0o042, 1, 9]),
+    ] {
+        assert!(marks(&[&good[..], &[0o354]].concat()).is_some());
+        assert_eq!(marks(&[&bad[..], &[0o354]].concat()), None);
+    }
+    assert!(marks(&[0o001, 0o062, 0, 9, 0o354]).is_some());
+    assert_eq!(marks(&[0o001, 0o062, 1, 9, 0o354]), None);
+    assert!(marks(&[0o360, 0, 0o354]).is_some());
+    assert_eq!(marks(&[0o360, 1, 0o354]), None);
+    assert_eq!(marks(&[0o361, 0o354]), None);
+    assert!(marks(&[0o001, 0o356, 0, 0o354]).is_some());
+    assert_eq!(marks(&[0o001, 0o356, 1, 0o354]), None);
+    assert!(marks(&[0o355, 0, 0, 0o354]).is_some());
+    assert_eq!(marks(&[0o355, 0, 1, 0o354]), None);
+    assert_eq!(marks(&[0o355, 1, 0, 0o354]), None);
+}
+
+#[test]
+fn a_call_has_just_the_parameters_and_leaves_the_results() {
+    // Procedure 1 takes 1 and gives 3.
+    let module = |code: &[u8]| {
+        let mut code = code.to_vec();
+        code.push(0o354);
+        let entry = code.len() as u16 - 1;
+        Source {
+            procedures: vec![procedure(0, 0, 0), procedure(entry, 1, 3)],
+            code,
+            ..Source::default()
+        }
+    };
+    let calls = |code: &[u8]| module_marks(&[module(code)]);
+    assert_eq!(calls(&[0o361, 0o354]), None);
+    assert_eq!(calls(&[0o001, 0o361, 0o354]), Some(vec![0, 1, 3, 1]));
+    assert_eq!(calls(&[0o001, 0o001, 0o361, 0o354]), None);
+    assert_eq!(calls(&[0o001, 0o360, 1, 0o354]), Some(vec![0, 1, FF, 3, 1]));
+    // CI's link is taken first.
+    assert_eq!(calls(&[0o001, 0o356, 1, 0o354]), None);
+    assert_eq!(
+        calls(&[0o001, 0o001, 0o356, 1, 0o354]),
+        Some(vec![0, 1, 2, FF, 3, 1])
+    );
+    assert_eq!(
+        calls(&[0o001, 0o355, 0, 1, 0o354]),
+        Some(vec![0, 1, FF, FF, 3, 1])
+    );
+    assert_eq!(calls(&[0o355, 0, 1, 0o354]), None);
+    // A call may not come last.
+    let last = Source {
+        procedures: vec![procedure(0, 0, 0)],
+        ..Source::plain(&[0o360, 0])
+    };
+    assert_eq!(module_marks(&[last]), None);
+}
+
+#[test]
+fn every_procedure_is_an_entry() {
+    let module = |procedures: &[Procedure], code: &[u8]| Source {
+        procedures: procedures.to_vec(),
+        ..Source::plain(code)
+    };
+    // One that is never called, at an unlisted opcode.
+    assert_eq!(
+        module_marks(&[module(
+            &[procedure(0, 0, 0), procedure(1, 0, 0)],
+            &[0o354, 0o021]
+        )]),
+        None
+    );
+    // Two may share an entry if their parameters agree.
+    let shared = |parameters| {
+        [
+            procedure(0, 0, 0),
+            procedure(1, 2, 0),
+            procedure(1, parameters, 4),
+        ]
+    };
+    let code = [0o354, 0o354];
+    assert_eq!(module_marks(&[module(&shared(2), &code)]), Some(vec![0, 2]));
+    assert_eq!(module_marks(&[module(&shared(3), &code)]), None);
+    // An entry that the code reaches with another depth.
+    let reached = [procedure(0, 0, 0), procedure(1, 2, 0)];
+    assert_eq!(module_marks(&[module(&reached, &[0o336, 0o354])]), None);
+    // 16 parameters.
+    let full = [procedure(0, 0, 0), procedure(1, 16, 0)];
+    assert_eq!(module_marks(&[module(&full, &code)]), Some(vec![0, 16]));
+}
+
+#[test]
+fn the_largest_code_is_marked_to_its_end() {
+    let mut code = vec![0o336; 32_766];
+    code.push(0o354);
+    assert_eq!(marks(&code), Some(vec![0; 32_767]));
+    // The longest jumps: forward by 32,765 from position 1, and back.
+    let mut code = vec![0; 32_767];
+    code[..3].copy_from_slice(&[0o031, 0x7F, 0xFB]);
+    code[32_764..].copy_from_slice(&[0o031, 0x80, 0x03]);
+    let marks = marks(&code).unwrap();
+    assert_eq!(marks.iter().filter(|&&mark| mark != FF).count(), 2);
+    assert_eq!(marks[32_764], 0);
+}
+
+/// Run's number for a map of a plain module's code; 30 where it fits.
+fn run_number(code: &[u8], part: &[u8]) -> u8 {
+    let mut rig = Rig::plain(code);
+    rig.map[4..].copy_from_slice(part);
+    rig.run(0).number
+}
+
+#[test]
+fn run_tests_a_lent_map() {
+    // LI1, JPF to 5, (NOP, NOP), SLW4, RTN
+    let code = [0o001, 0o033, 3, 0o336, 0o336, 0o064, 0o354];
+    let fewest = [0, 1, FF, FF, FF, 1, 0];
+    assert_eq!(marks(&code).unwrap(), fewest);
+    assert_eq!(run_number(&code, &fewest), 30);
+    // Marks beyond the fewest are allowed, where they fit.
+    assert_eq!(run_number(&code, &[0, 1, FF, FF, 1, 1, 0]), 30);
+    assert_eq!(run_number(&code, &[0, 1, FF, 1, 1, 1, 0]), 30);
+    assert_eq!(run_number(&code, &[0, 1, FF, 1, FF, 1, 0]), 12);
+    assert_eq!(run_number(&code, &[0, 1, FF, FF, 0, 1, 0]), 12);
+    assert_eq!(run_number(&code, &[0, 1, FF, 0, 0, 1, 0]), 12);
+    // The operand 3 is the opcode LI3.
+    assert_eq!(run_number(&code, &[0, 1, 0, 1, 1, 1, 0]), 30);
+    assert_eq!(run_number(&code, &[0, 1, 1, 1, 1, 1, 0]), 12);
+    // Less than the fewest, or another depth.
+    assert_eq!(run_number(&code, &[0, 1, FF, FF, FF, 1, FF]), 12);
+    assert_eq!(run_number(&code, &[FF, FF, FF, FF, FF, FF, FF]), 12);
+    assert_eq!(run_number(&code, &[FF, 1, FF, FF, FF, 1, 0]), 12);
+    assert_eq!(run_number(&code, &[1, 2, FF, FF, FF, 2, 1]), 12);
+    // 17 to 254 never fit, not even at an RTN that nothing reaches.
+    let alone = [0o354, 0o354];
+    for mark in 0..=16 {
+        assert_eq!(run_number(&alone, &[0, mark]), 30);
+    }
+    for mark in 17..=254 {
+        assert_eq!(run_number(&alone, &[0, mark]), 12);
+    }
+    assert_eq!(run_number(&alone, &[0, FF]), 30);
+    // Nor where the instruction takes a word: a TRAP, and an SLW4 before it.
+    let takes = [0o354, 0o064, 0o304];
+    assert_eq!(run_number(&takes, &[0, FF, 16]), 30);
+    assert_eq!(run_number(&takes, &[0, FF, 17]), 12);
+    assert_eq!(run_number(&takes, &[0, 16, 15]), 30);
+    assert_eq!(run_number(&takes, &[0, 17, 16]), 12);
+}
+
+#[test]
+fn image_bytes_outside_the_code_have_ff() {
+    let module = Source {
+        data_size: 1,
+        name: Some(*b"cabinets"),
+        procedures: vec![procedure(0, 0, 0)],
+        ..Source::plain(&[0o354])
+    };
+    let good = Rig::new(&[module.clone(), module], WORDS);
+    for position in 0..good.image.len() {
+        let mut rig = good.clone();
+        let inside = rig.map[position] != FF;
+        rig.map[position] = if inside { FF } else { 0 };
+        assert_eq!(rig.run(0).number, 12, "{position}");
+    }
+    // Bytes past the image are not looked at.
+    let mut rig = good.clone();
+    rig.map.extend([0, 0x55, FF]);
+    assert_eq!(rig.run(0).number, 30);
+}
+
+/// The marks of the lent map count, also beyond the fewest: a return may go
+/// to one, and a machine may stand there.
+#[test]
+fn run_goes_by_the_lent_marks() {
+    let code = [0o354, 0o336, 0o354];
+    let mut rig = Rig::plain(&code);
+    assert_eq!(rig.map[4..], [0, FF, FF]);
+    let mark = usize::from(rig.machine.l) + 2;
+    rig.store[mark] = 1;
+    rig.expect_stop(34, 0);
+    rig.map[4..].copy_from_slice(&[0, 0, 0]);
+    let answer = rig.run(2);
+    assert_eq!((answer.number, answer.count, rig.machine.pc), (30, 2, 2));
+}
+
+/// Small codes of few opcodes: a position's byte is an opcode or an operand.
+fn small_code(random: &mut impl FnMut(u64) -> u64) -> Vec<u8> {
+    const BYTES: [u8; 14] = [
+        0o000, 0o001, 0o002, 0o003, 0o032, 0o033, 0o034, 0o035, 0o036, 0o037, 0o270, 0o265, 0o336,
+        0o354,
+    ];
+    let length = 1 + random(5) as usize;
+    let mut code: Vec<u8> = (0..length)
+        .map(|_| BYTES[random(BYTES.len() as u64) as usize])
+        .collect();
+    // Half of them end as a code can.
+    if random(2) == 0 {
+        code[length - 1] = 0o354;
+    }
+    code
+}
+
+/// "every other fitting assignment marks these positions too, with the same
+/// depths": all assignments of small codes are tried.
+#[test]
+fn the_fewest_is_in_every_other() {
+    let mut state = 12_345u64;
+    let mut random = |bound: u64| {
+        state = state
+            .wrapping_mul(6_364_136_223_846_793_005)
+            .wrapping_add(1);
+        (state >> 33) % bound
+    };
+    let (mut fitting_codes, mut unfit_codes, mut assignments) = (0, 0, 0);
+    for _ in 0..1000 {
+        let code = small_code(&mut random);
+        let image = encode(&[Source::plain(&code)]);
+        let program = parse(&image).unwrap();
+        let fewest = marks(&code);
+        // Five bytes put at most five words.
+        let values: Vec<u8> = (0..=6).chain([FF]).collect();
+        let mut found = 0;
+        let mut map = vec![FF; image.len()];
+        for choice in 0..values.len().pow(code.len() as u32) {
+            let mut rest = choice;
+            for mark in &mut map[4..] {
+                *mark = values[rest % values.len()];
+                rest /= values.len();
+            }
+            if !fits(&program, &image, &map) {
+                continue;
+            }
+            found += 1;
+            let fewest = fewest.as_ref().expect("load refused, but this fits");
+            for (mark, least) in map[4..].iter().zip(fewest) {
+                assert!(*least == FF || mark == least, "{code:?} {map:?}");
+            }
+        }
+        if let Some(fewest) = fewest {
+            map[4..].copy_from_slice(&fewest);
+            assert!(fits(&program, &image, &map), "{code:?}");
+            assert!(found > 0);
+            fitting_codes += 1;
+        } else {
+            assert_eq!(found, 0, "{code:?}");
+            unfit_codes += 1;
+        }
+        assignments += found;
+    }
+    // The choice of codes is a good one.
+    let counts = (fitting_codes, unfit_codes, assignments);
+    assert!(
+        fitting_codes > 200 && unfit_codes > 200 && assignments > 500,
+        "{counts:?}"
+    );
+}
+
+/// The rules once more, naively and for these opcodes alone: marks are added
+/// one sweep after another until nothing changes.
+fn naive(code: &[u8]) -> Option<Vec<u8>> {
+    let mut marks = vec![FF; code.len()];
+    marks[0] = 0;
+    loop {
+        let mut changed = false;
+        for p in 0..code.len() {
+            if marks[p] == FF {
+                continue;
+            }
+            let d = i32::from(marks[p]);
+            let b = code.get(p + 1).map(|&b| i32::from(b));
+            let at = p as i32 + 1;
+            let after: Vec<(i32, i32)> = match code[p] {
+                0o000..=0o017 => vec![(at, d + 1)],
+                0o032 => vec![(at + b?, d - 1), (at + 1, d - 1)],
+                0o033 => vec![(at + b?, d)],
+                0o034 => vec![(at - b?, d - 1), (at + 1, d - 1)],
+                0o035 => vec![(at - b?, d)],
+                0o036 | 0o037 => vec![(at + b?, d), (at + 1, d - 1)],
+                0o270 if d >= 2 => vec![(at, d - 1)],
+                0o265 if d >= 1 => vec![(at, d + 1)],
+                0o336 => vec![(at, d)],
+                0o354 => vec![],
+                _ => return None,
+            };
+            for (target, depth) in after {
+                if target < 0 || target >= code.len() as i32 || !(0..=16).contains(&depth) {
+                    return None;
+                }
+                let mark = &mut marks[target as usize];
+                if *mark == FF {
+                    *mark = depth as u8;
+                    changed = true;
+                } else if i32::from(*mark) != depth {
+                    return None;
+                }
+            }
+        }
+        if !changed {
+            return Some(marks);
+        }
+    }
+}
+
+#[test]
+fn the_worklist_agrees_with_naive_sweeps() {
+    let mut state = 99u64;
+    let mut random = |bound: u64| {
+        state = state
+            .wrapping_mul(6_364_136_223_846_793_005)
+            .wrapping_add(1);
+        (state >> 33) % bound
+    };
+    let mut accepted = 0;
+    for _ in 0..100_000 {
+        // Several small codes in a row make longer ones.
+        let code: Vec<u8> = (0..1 + random(4))
+            .flat_map(|_| small_code(&mut random))
+            .collect();
+        let expected = naive(&code);
+        assert_eq!(marks(&code), expected, "{code:?}");
+        accepted += usize::from(expected.is_some());
+    }
+    assert!(accepted > 5_000, "{accepted}");
+}
+
+/// Run and load agree: every map that load made is one that run takes.
+#[test]
+fn load_makes_maps_that_run_takes() {
+    let image = encode(&[Source::plain(&[0o001, 0o064, 0o033, 2, 0o021, 0o354])]);
+    let mut map = vec![0; image.len() + 3];
+    assert_eq!(load(&image, &mut map), 0);
+    let mut store = vec![0; WORDS];
+    let (_, machine) = second::start(&image, &mut store);
+    let answer = run(machine, &image, &map, &mut store, &mut [0; 16], &[0; 16], 9);
+    assert_eq!((answer.number, answer.count), (31, 3));
+}

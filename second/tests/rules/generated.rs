@@ -1,0 +1,307 @@
+//! The generator, its cases and their file; laws that hold in every case.
+
+use second::api::{run_observed, Buffers};
+use second::case::{decode, encode, replay, Case, CaseRun, Checksum};
+use second::coverage::Coverage;
+use second::gen;
+use second::image::parse;
+use second::opcode::row;
+use second::{load, run, start, Machine, RunAnswer};
+
+#[test]
+fn cases_depend_on_seed_and_index_alone() {
+    for index in 0..64 {
+        assert_eq!(gen::case(7, index), gen::case(7, index));
+    }
+    assert_ne!(gen::case(7, 0), gen::case(8, 0));
+    let listed: Vec<Case> = gen::cases(7, 3).collect();
+    assert_eq!(listed[2], gen::case(7, 2));
+}
+
+#[test]
+fn everything_is_covered() {
+    let coverage = Coverage::of(gen::cases(1, 2000));
+    assert_eq!(coverage.faults(), Vec::<String>::new());
+    // And what is not covered is found: no case, no coverage. All opcodes but
+    // 304, the stops of opcodes, 30, and the refusals.
+    let nothing = Coverage::of(gen::cases(1, 0));
+    let faults = nothing.faults();
+    assert!(faults.contains(&"opcode 270 UADD was never executed".to_string()));
+    assert!(faults.contains(&"opcode 333 DIV never stopped with 37".to_string()));
+    assert!(faults.contains(&"no run stopped with 30".to_string()));
+    assert!(faults.contains(&"run never answered 12".to_string()));
+    let executed = faults.iter().filter(|f| f.ends_with("executed")).count();
+    assert_eq!(executed, 185);
+}
+
+#[test]
+fn files_of_cases_are_read_back() {
+    // Two rounds of large cases.
+    let cases: Vec<Case> = gen::cases(3, 32 * 4 * 9).collect();
+    let file = encode(&cases);
+    assert_eq!(file.len() % 2, 0);
+    assert_eq!(decode(&file).as_ref(), Ok(&cases));
+    // Cut or with something behind.
+    let small = encode(&cases[..2]);
+    for length in [0, 1, 4, 7, 8, 9, small.len() - 1] {
+        assert!(decode(&small[..length]).is_err(), "{length}");
+    }
+    assert!(decode(&[&small[..], &[0]].concat()).is_err());
+}
+
+#[test]
+fn the_file_is_as_documented() {
+    let machine = Machine {
+        module: 1,
+        pc: 2,
+        depth: 3,
+        p: 4,
+        l: 5,
+        s: 6,
+        h: 7,
+        m: 8,
+        stack: std::array::from_fn(|i| 0x100 + i as u16),
+    };
+    let case = Case {
+        image: vec![0xAB, 0xCD, 0xEF],
+        map_length: 4,
+        map_fill: 0x55,
+        store_length: 65_536,
+        store_fill: 0x1234,
+        outputs: vec![9, 10],
+        runs: vec![
+            CaseRun {
+                budget: 0x0001_0002,
+                inputs: vec![11],
+                machine: Some(machine),
+                map_patches: vec![(3, 0xFF)],
+                store_patches: vec![(12, 13), (14, 15)],
+            },
+            CaseRun::default(),
+        ],
+    };
+    let mut expected: Vec<u16> = vec![0x4D43, 1, 0, 1];
+    expected.extend([0, 3, 0xABCD, 0xEF00]);
+    expected.extend([0, 4, 0x55]);
+    expected.extend([1, 0, 0x1234]);
+    expected.extend([2, 9, 10]);
+    expected.push(2);
+    expected.extend([1, 2]);
+    expected.extend([1, 11]);
+    expected.extend([1, 1, 2, 3, 4, 5, 6, 7, 8]);
+    expected.extend(0x100..0x110);
+    expected.extend([1, 3, 0xFF]);
+    expected.extend([2, 12, 13, 14, 15]);
+    expected.extend([0, 0, 0, 0, 0, 0]);
+    let bytes: Vec<u8> = expected.iter().flat_map(|w| w.to_be_bytes()).collect();
+    assert_eq!(encode(&[case]), bytes);
+}
+
+#[test]
+fn checksums_are_as_documented() {
+    assert_eq!(Checksum::of([].into_iter()), Checksum(1, 1));
+    assert_eq!(Checksum::of([5].into_iter()), Checksum(36, 262));
+    // 36 · 31 + 65,535 = 66,651; 262 · 257 + 65,535 = 132,869.
+    assert_eq!(
+        Checksum::of([5, 65_535].into_iter()),
+        Checksum(66_651 - 65_521, 132_869 - 2 * 65_519)
+    );
+}
+
+#[test]
+fn an_outcome_is_printed_in_lines() {
+    // The paper's example: its reading, but for the inputs and outputs.
+    let case = Case {
+        image: vec![0x01, 0x00, 0x00, 0x04, 0x02, 0x07, 0xA1, 0xEC],
+        map_length: 8,
+        store_length: 167,
+        outputs: vec![3; 16],
+        runs: vec![
+            CaseRun {
+                budget: 1000,
+                inputs: vec![0; 16],
+                ..CaseRun::default()
+            },
+            CaseRun::default(),
+        ],
+        ..Case::default()
+    };
+    let text = replay(&case, &mut ()).to_string();
+    let lines: Vec<&str> = text.lines().collect();
+    let zeros = "0 0 0 0 0 0 0 0 0 0 0 0 0 0 0 0";
+    assert_eq!(lines.len(), 3);
+    assert!(lines[0].starts_with("load 0 map "));
+    assert!(lines[0].ends_with(&format!(" machine 0 0 0 131 139 143 143 0 {zeros}")));
+    let outputs = "outputs 3 3 7 3 3 3 3 3 3 3 3 3 3 3 3 3 store ";
+    let stopped =
+        format!("run 31 code 0 count 3 machine 0 3 0 131 139 143 143 0 {zeros} {outputs}");
+    assert!(lines[1].starts_with(&stopped), "{}", lines[1]);
+    let refused =
+        format!("run 10 code 0 count 0 machine 0 3 0 131 139 143 143 0 {zeros} {outputs}");
+    assert!(lines[2].starts_with(&refused), "{}", lines[2]);
+}
+
+/// A case's buffers while it is replayed by the tests.
+#[derive(Clone, PartialEq, Debug)]
+struct State {
+    machine: Machine,
+    store: Vec<u16>,
+    outputs: Vec<u16>,
+}
+
+impl State {
+    fn run(&mut self, case: &Case, map: &[u8], inputs: &[u16], n: u32) -> RunAnswer {
+        let answer = run(
+            self.machine,
+            &case.image,
+            map,
+            &mut self.store,
+            &mut self.outputs,
+            inputs,
+            n,
+        );
+        self.machine = answer.machine;
+        answer
+    }
+}
+
+/// Replays cases and hands each run's state before it to a check.
+fn for_each_run(cases: impl Iterator<Item = Case>, check: impl Fn(&Case, &[u8], &CaseRun, State)) {
+    for case in cases {
+        let mut map = vec![case.map_fill; case.map_length];
+        load(&case.image, &mut map);
+        let mut store = vec![case.store_fill; case.store_length];
+        let (_, machine) = start(&case.image, &mut store);
+        let mut state = State {
+            machine,
+            store,
+            outputs: case.outputs.clone(),
+        };
+        for run in &case.runs {
+            for &(offset, byte) in &run.map_patches {
+                map[usize::from(offset)] = byte;
+            }
+            for &(address, word) in &run.store_patches {
+                state.store[usize::from(address)] = word;
+            }
+            state.machine = run.machine.unwrap_or(state.machine);
+            check(&case, &map, run, state.clone());
+            state.run(&case, &map, &run.inputs, run.budget);
+        }
+    }
+}
+
+/// "n + m where two runs are compared, m at least 1; their counts add."
+#[test]
+fn n_and_then_m_is_n_plus_m() {
+    for_each_run(gen::cases(11, 700), |case, map, run, before| {
+        let mut whole = before.clone();
+        let total = whole.run(case, map, &run.inputs, run.budget);
+        if total.number < 30 {
+            return;
+        }
+        for n in [0, 1, run.budget / 2, run.budget.saturating_sub(1)] {
+            if n >= run.budget {
+                continue;
+            }
+            let mut parts = before.clone();
+            let first = parts.run(case, map, &run.inputs, n);
+            if first.number != 30 {
+                // It stopped before n: the whole run stopped there too.
+                assert_eq!(first, total);
+                assert_eq!(parts, whole);
+                continue;
+            }
+            assert_eq!(first.count, n);
+            let second = parts.run(case, map, &run.inputs, run.budget - n);
+            assert_eq!(first.count + second.count, total.count);
+            assert_eq!((second.number, second.code), (total.number, total.code));
+            assert_eq!(parts, whole);
+        }
+    });
+}
+
+/// "At each point the machine stands as demand 3 says": step by step the
+/// machine is one, its instruction lies in the code, and the stack suffices.
+#[test]
+fn every_point_of_a_run_is_a_machine() {
+    for_each_run(gen::cases(12, 320), |case, map, run, before| {
+        let mut whole = before.clone();
+        let total = whole.run(case, map, &run.inputs, run.budget);
+        if total.number < 30 {
+            return;
+        }
+        let program = parse(&case.image).unwrap();
+        let mut stepped = before.clone();
+        for point in 0..=total.count.min(300) {
+            let machine = stepped.machine;
+            assert!(machine.is_machine(&program, map, stepped.store.len()));
+            let module = &program.modules[usize::from(machine.module)];
+            let pc = usize::from(machine.pc);
+            let row = row(case.image[module.code_start + pc]);
+            assert!(row.length > 0 && pc + usize::from(row.length) <= module.code_length);
+            assert!(row.taken <= machine.depth && machine.depth - row.taken + row.left <= 16);
+            if point < total.count {
+                let answer = stepped.run(case, map, &run.inputs, 1);
+                assert_eq!((answer.number, answer.count), (30, 1));
+            }
+        }
+        if total.count <= 300 {
+            assert_eq!(stepped, whole);
+        }
+    });
+}
+
+/// The opcodes that an observer is told are those counted.
+#[test]
+fn an_observer_sees_the_steps_counted() {
+    for_each_run(gen::cases(13, 200), |case, map, run, mut before| {
+        let mut steps = [0u64; 256];
+        let buffers = Buffers {
+            image: &case.image,
+            map,
+            store: &mut before.store,
+            outputs: &mut before.outputs,
+            inputs: &run.inputs,
+        };
+        let answer = run_observed(before.machine, buffers, run.budget, &mut steps);
+        assert_eq!(u64::from(answer.count), steps.iter().sum::<u64>());
+    });
+}
+
+/// "left as it was: all", whatever the refusal.
+#[test]
+fn a_refused_run_leaves_everything() {
+    for_each_run(gen::cases(14, 700), |case, map, run, before| {
+        let mut after = before.clone();
+        let answer = after.run(case, map, &run.inputs, run.budget);
+        if answer.number < 30 {
+            assert_eq!((answer.code, answer.count), (0, 0));
+            assert_eq!(after, before);
+        }
+    });
+}
+
+/// Refusals leave the map, but for 8, and start leaves the store.
+#[test]
+fn refused_loads_and_starts_leave_their_buffers() {
+    for case in gen::cases(15, 1000) {
+        let length = case.image.len();
+        let mut map = vec![case.map_fill; case.map_length];
+        match load(&case.image, &mut map) {
+            0 => {}
+            8 => assert_eq!(map[..length], vec![0xFF; length]),
+            _ => assert_eq!(map, vec![case.map_fill; case.map_length]),
+        }
+        if case.map_length > length {
+            let past = &map[length..];
+            assert!(past.iter().all(|&byte| byte == case.map_fill));
+        }
+        let mut store = vec![case.store_fill; case.store_length];
+        let (number, machine) = start(&case.image, &mut store);
+        if number != 0 {
+            assert_eq!(machine, Machine::default());
+            assert_eq!(store, vec![case.store_fill; case.store_length]);
+        }
+    }
+}

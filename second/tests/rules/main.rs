@@ -1,0 +1,13 @@
+//! The rules of the paper, one file a subject. Expected values are worked out
+//! by hand from the paper's sentences.
+
+mod commands;
+mod depths;
+mod generated;
+mod instructions;
+mod marked;
+mod procedures;
+mod refusals;
+mod rig;
+mod table;
+mod transfer;

@@ -1,0 +1,141 @@
+//! The marked cases, as the paper prints them, and the desk's reading.
+
+use crate::rig::Rig;
+use second::{desk, load};
+
+const EXAMPLE: [u8; 8] = [0x01, 0x00, 0x00, 0x04, 0x02, 0x07, 0xA1, 0xEC];
+
+fn plain_image(code: &[u8]) -> Vec<u8> {
+    let mut image = vec![1, 0, 0, code.len() as u8];
+    image.extend(code);
+    image
+}
+
+fn load_number(code: &[u8]) -> u8 {
+    let image = plain_image(code);
+    load(&image, &mut vec![0; image.len()])
+}
+
+/// Runs a code until it stops; answers the stop and the words on the stack.
+fn stop_and_stack(code: &[u8]) -> (u8, Vec<u16>) {
+    let mut rig = Rig::plain(code);
+    let answer = rig.run(1000);
+    (answer.number, rig.stack().to_vec())
+}
+
+#[test]
+fn the_example_has_its_map() {
+    let mut map = [0x55; 10];
+    assert_eq!(load(&EXAMPLE, &mut map), 0);
+    assert_eq!(
+        map,
+        [0xFF, 0xFF, 0xFF, 0xFF, 0x00, 0x01, 0x02, 0x00, 0x55, 0x55]
+    );
+}
+
+#[test]
+fn the_example_reads_as_printed() {
+    assert_eq!(
+        desk(&EXAMPLE),
+        "stop 31 code 0 steps 3 module 0 pc 3 depth 0\n0 0 7 0 0 0 0 0 0 0 0 0 0 0 0 0\n"
+    );
+}
+
+#[test]
+fn code_02_is_8() {
+    assert_eq!(load_number(&[0x02]), 8);
+}
+
+#[test]
+fn seventeen_zeros_and_trap_are_8_sixteen_are_accepted() {
+    let code = |zeros: usize| [vec![0x00; zeros], vec![0xC4]].concat();
+    assert_eq!(load_number(&code(17)), 8);
+    assert_eq!(load_number(&code(16)), 0);
+}
+
+#[test]
+fn a_jump_to_itself_spends_its_budget() {
+    let mut rig = Rig::plain(&[0x1D, 0x01]);
+    let answer = rig.run(5);
+    assert_eq!((answer.number, answer.count), (30, 5));
+}
+
+#[test]
+fn a_growing_loop_is_8() {
+    assert_eq!(load_number(&[0x00, 0x1D, 0x02]), 8);
+}
+
+#[test]
+fn signed_range() {
+    // LIW 300, LIB 110, MUL
+    let code = [0o022, 0x01, 0x2C, 0o020, 110, 0o332, 0o304];
+    assert_eq!(stop_and_stack(&code), (37, vec![300, 110]));
+    // LIW −32,768, LIW −1, DIV
+    let code = [0o022, 0x80, 0x00, 0o022, 0xFF, 0xFF, 0o333, 0o304];
+    assert_eq!(stop_and_stack(&code), (37, vec![0x8000, 0xFFFF]));
+}
+
+#[test]
+fn minus_7_by_2_is_minus_3() {
+    let code = [0o022, 0xFF, 0xF9, 0o002, 0o333, 0o304];
+    assert_eq!(stop_and_stack(&code), (40, vec![0xFFFD]));
+}
+
+#[test]
+fn unsigned_sum_is_reduced() {
+    let code = [0o022, 0xFF, 0xFF, 0o001, 0o270, 0o304];
+    assert_eq!(stop_and_stack(&code), (40, vec![0]));
+}
+
+#[test]
+fn one_rotated_by_one() {
+    let code = [0o001, 0o001, 0o275, 0o304];
+    assert_eq!(stop_and_stack(&code), (40, vec![32_768]));
+}
+
+#[test]
+fn check_306_against_5() {
+    let code = |value: u8| [value, 0o005, 0o306, 0o304];
+    assert_eq!(stop_and_stack(&code(5)), (40, vec![5]));
+    assert_eq!(stop_and_stack(&code(6)), (38, vec![6, 5]));
+}
+
+#[test]
+fn desk_refusals_are_one_line() {
+    assert_eq!(desk(&[]), "refused 1\n");
+    assert_eq!(desk(&[0; 65_536]), "refused 1\n");
+    assert_eq!(desk(&[0]), "refused 2\n");
+    assert_eq!(desk(&plain_image(&[0x02])), "refused 8\n");
+    // Data size 4,000: Z = 4,131, and W = 4,096 is below Z + 36. Only load
+    // comes before start, so 8 comes before 9.
+    let large = |code: u8| [0x01, 0x01, 0x0F, 0xA0, 0x00, 0x01, code];
+    assert_eq!(desk(&large(0xEC)), "refused 9\n");
+    assert_eq!(desk(&large(0x02)), "refused 8\n");
+    // The largest data size that the desk's store holds: Z + 36 = 4,096.
+    assert_eq!(
+        desk(&[0x01, 0x01, 0x0F, 0x59, 0x00, 0x01, 0xEC]),
+        "stop 31 code 0 steps 0 module 0 pc 0 depth 0\n0 0 0 0 0 0 0 0 0 0 0 0 0 0 0 0\n"
+    );
+    assert_eq!(
+        desk(&[0x01, 0x01, 0x0F, 0x5A, 0x00, 0x01, 0xEC]),
+        "refused 9\n"
+    );
+}
+
+#[test]
+fn desk_prints_words_unsigned_and_the_trap_code() {
+    // Output 15 becomes 65,535; then trap 40 with code 65,534.
+    let code = [0o017, 0o022, 0xFF, 0xFF, 0o241, 0o022, 0xFF, 0xFE, 0o304];
+    assert_eq!(
+        desk(&plain_image(&code)),
+        "stop 40 code 65534 steps 4 module 0 pc 8 depth 1\n0 0 0 0 0 0 0 0 0 0 0 0 0 0 0 65535\n"
+    );
+}
+
+#[test]
+fn desk_spends_a_thousand_steps() {
+    assert_eq!(
+        desk(&plain_image(&[0x1D, 0x01])),
+        "stop 30 code 0 steps 1000 module 0 pc 0 depth 0\n0 0 0 0 0 0 0 0 0 0 0 0 0 0 0 0\n"
+    );
+}

@@ -1,0 +1,180 @@
+//! A program with its buffers, and a check of single steps.
+
+use second::assemble::{encode, Source};
+use second::image::Procedure;
+use second::{load, run, start, Machine, RunAnswer};
+
+pub const WORDS: usize = 4096;
+
+/// A loaded and started program.
+#[derive(Clone)]
+pub struct Rig {
+    pub image: Vec<u8>,
+    pub map: Vec<u8>,
+    pub store: Vec<u16>,
+    pub outputs: [u16; 16],
+    pub inputs: [u16; 16],
+    pub machine: Machine,
+}
+
+impl Rig {
+    pub fn new(modules: &[Source], words: usize) -> Rig {
+        let image = encode(modules);
+        let mut map = vec![0xAA; image.len()];
+        assert_eq!(load(&image, &mut map), 0, "load");
+        let mut store = vec![0xAAAA; words];
+        let (number, machine) = start(&image, &mut store);
+        assert_eq!(number, 0, "start");
+        Rig {
+            image,
+            map,
+            store,
+            outputs: [0; 16],
+            inputs: [0; 16],
+            machine,
+        }
+    }
+
+    pub fn plain(code: &[u8]) -> Rig {
+        Rig::new(&[Source::plain(code)], WORDS)
+    }
+
+    /// Runs and keeps the machine.
+    pub fn run(&mut self, n: u32) -> RunAnswer {
+        let answer = run(
+            self.machine,
+            &self.image,
+            &self.map,
+            &mut self.store,
+            &mut self.outputs,
+            &self.inputs,
+            n,
+        );
+        self.machine = answer.machine;
+        answer
+    }
+
+    /// The words on the operand stack, bottom first.
+    pub fn stack(&self) -> &[u16] {
+        &self.machine.stack[..usize::from(self.machine.depth)]
+    }
+
+    /// Writes store words.
+    pub fn poke(&mut self, words: &[(u16, u16)]) {
+        for &(address, word) in words {
+            self.store[usize::from(address)] = word;
+        }
+    }
+
+    /// Makes one step that must be counted, and must leave just the machine
+    /// and the store words named, the outputs as they were.
+    pub fn expect_step(&mut self, change: impl Fn(&mut Machine), writes: &[(u16, u16)]) {
+        let mut expected = self.clone();
+        change(&mut expected.machine);
+        expected.poke(writes);
+        let answer = self.run(1);
+        assert_eq!((answer.number, answer.code, answer.count), (30, 0, 1));
+        assert_eq!(self.machine, expected.machine);
+        assert_eq!(self.differences(&expected), []);
+        assert_eq!(self.outputs, expected.outputs);
+        // What is left is a machine: the depth is the one marked there.
+        assert_eq!(self.run(0).number, 30);
+    }
+
+    /// The next instruction must stop, and leave everything as it was.
+    pub fn expect_stop(&mut self, number: u8, code: u16) {
+        let before = self.clone();
+        let answer = self.run(1000);
+        assert_eq!(
+            (answer.number, answer.code, answer.count),
+            (number, code, 0)
+        );
+        assert_eq!(self.machine, before.machine);
+        assert_eq!(self.differences(&before), []);
+        assert_eq!(self.outputs, before.outputs);
+    }
+
+    /// Store words that differ: address, here, there.
+    fn differences(&self, other: &Rig) -> Vec<(usize, u16, u16)> {
+        let pairs = self.store.iter().zip(&other.store).enumerate();
+        pairs
+            .filter(|(_, (here, there))| here != there)
+            .map(|(address, (&here, &there))| (address, here, there))
+            .collect()
+    }
+}
+
+/// Where the two modules of [`at_instruction`] begin, and the registers there.
+pub const BASE_0: u16 = 128;
+pub const BASE_1: u16 = 200;
+pub const Z: u16 = 213;
+pub const L: u16 = Z + 8;
+pub const S: u16 = Z + 12;
+pub const H: u16 = WORDS as u16 - 24;
+
+/// The position of procedure n of module 0 in [`at_instruction`].
+pub fn entry(n: u16) -> u16 {
+    2 + n
+}
+
+/// A rig stopped before `instruction`, with `words` on the operand stack.
+///
+/// Module 0 has data size 69 and jumps over sixteen RTNs: procedures 0 to 13
+/// take and give nothing but 0 is the main program, 14 takes 2 and gives 1, 15
+/// takes 16 and gives 4. Then literals put the words, the instruction comes,
+/// and `rest`. Module 1 has data size 10 and four RTNs: procedure 0 takes and
+/// gives nothing, 1 (at position 3) takes 3 and gives 2.
+pub fn at_instruction_with(instruction: &[u8], words: &[u16], rest: &[u8]) -> Rig {
+    let procedure = |entry, parameters, results| Procedure {
+        entry,
+        parameters,
+        results,
+    };
+    let mut code = vec![0o033, 17];
+    code.extend([0o354; 16]);
+    for word in words {
+        code.push(0o022);
+        code.extend(word.to_be_bytes());
+    }
+    code.extend(instruction);
+    code.extend(rest);
+    let mut procedures: Vec<Procedure> = (0..14).map(|n| procedure(entry(n), 0, 0)).collect();
+    procedures[0].entry = 0;
+    procedures.push(procedure(entry(14), 2, 1));
+    procedures.push(procedure(entry(15), 16, 4));
+    let main = Source {
+        data_size: 69,
+        procedures,
+        code,
+        ..Source::default()
+    };
+    let other = Source {
+        data_size: 10,
+        procedures: vec![procedure(0, 0, 0), procedure(3, 3, 2)],
+        code: vec![0o354; 4],
+        ..Source::default()
+    };
+    let mut rig = Rig::new(&[main, other], WORDS);
+    let answer = rig.run(1 + words.len() as u32);
+    assert_eq!(answer.number, 30);
+    assert_eq!(rig.stack(), words);
+    assert_eq!(rig.machine.pc, here(words));
+    rig
+}
+
+/// The same with an RTN behind the instruction.
+pub fn at_instruction(instruction: &[u8], words: &[u16]) -> Rig {
+    at_instruction_with(instruction, words, &[0o354])
+}
+
+/// The position of the instruction after these words.
+pub fn here(words: &[u16]) -> u16 {
+    18 + 3 * words.len() as u16
+}
+
+/// Sets the operand stack of an expected machine.
+pub fn set_stack(machine: &mut Machine, words: &[u16]) {
+    machine.depth = words.len() as u8;
+    machine.stack = [0; 16];
+    machine.stack[..words.len()].copy_from_slice(words);
+}

@@ -2,3 +2,4 @@ pub mod Laws
 pub mod Chain
 pub mod Find
 pub mod Process
+pub mod Decoded

@@ -1,3 +1,4 @@
 pub mod Table
 pub mod Frames
 pub mod Transfer
+pub mod Rows

@@ -13,8 +13,11 @@ use Rattle.mcode.specs.declared.Flow.{Flow}
 use Rattle.mcode.specs.declared.Flow.the-variants.{Fault, Ends, To, Fork}
 use Rattle.depths.specs.declared.Visit.{Visit}
 use Rattle.depths.specs.declared.Visit.the-variants.{Clash, Tail}
+use Rattle.depths.specs.declared.Turn.{Turn}
+use Rattle.depths.specs.declared.Turn.the-variants.{Stop, Next}
 use Rattle.mcode.specs.Depths.{Analysis, mark, Marked, Follows, Fits, Fewest, NoneFits}
-use Rattle.depths.specs.Queue.{Implied, Grows, Queue, Entered, Visited, Stepped}
+use Rattle.mcode.proofs.Tests.{inside}
+use Rattle.depths.specs.Queue.{Implied, Grows, Queue, Entered, Visited, Stepped, Headed, Advanced}
 use Rattle.depths.proofs.Lists.{free-set, free-all}
 
 -- the marks that f asks are marks
@@ -257,3 +260,34 @@ module _ (A : Analysis) where
   -- a grown map keeps the entries' marks
   pub entered-grows : (m m′ : List ℕ) (i : ℕ) → ((k : ℕ) → k < i → A .entryMark k ≡ A .none → ⊥) → Grows A m m′ → Entered A m i → Entered A m′ i
   entered-grows m m′ i reals g E k l = g (A .entryAt k) (is-mark m (A .entryAt k) (A .entryMark k) (reals k l) (E k l)) ∙ E k l
+
+  -- the head of the queue lies in the map
+  pub in-queue : (m w : List ℕ) (h t : ℕ) → Queue A m w h t → h < t → (h < length w) × (getD w h 0 < length m)
+  in-queue m w h t Q l = (omega (arith, Q .room), inside A m (getD w h 0) (Q .marked h l))
+
+  -- a step, and then the turn of the queue's head
+  pub headed : (h : ℕ) (m m′ w′ : List ℕ) (s : ℕ) → Queue A m′ w′ h s × Grows A m m′ → (r : Turn) → Headed (A .none) m′ w′ h s r → Advanced A h m r m′ w′
+  headed h m m′ w′ s S Stop e = absurd e
+  headed h m m′ w′ s S (Next t p d) (e, f) = rw e (S .0, S .1, f)
+
+  -- a position that was queued at t is there
+  pub queued : (m w : List ℕ) (t q d s : ℕ) (m′ w′ : List ℕ) → Visited (A .none) m w t q d (Tail s) m′ w′ → s ≤ length w → t < s → (getD w′ t 0 ≡ q) × (mark A m′ q ≡ d)
+  queued m w t q d s m′ w′ D l h = go (D .1)
+    where
+      go : ((mark A m q ≡ A .none) × (m′ ≡ set m q d) × (w′ ≡ set w t q) × (s ≡ t + 1)) ⊎ ((mark A m q ≡ d) × (m′ ≡ m) × (w′ ≡ w) × (s ≡ t)) → (getD w′ t 0 ≡ q) × (mark A m′ q ≡ d)
+      go (inl v) = rw (v .1, v .2) (getD-set-same w t q 0 (omega arith), getD-set-same m q d (A .none) (D .0))
+      go (inr v) = absurd (let z : ⊥ = omega (arith, v .3) in z)
+
+  -- the search between two turns: no assignment fits, or the queue's head is the position whose turn is next
+  abbrev pub Going : List ℕ → List ℕ → ℕ → Turn → Type 0
+  Going m w h Stop = NoneFits A
+  Going m w h (Next t p d) = Queue A m w h t × Entered A m (A .entries) × (h < t → (getD w h 0 ≡ p) × (mark A m p ≡ d))
+
+  pub first-going : (m w : List ℕ) (h t : ℕ) → Queue A m w h t → Entered A m (A .entries) → (r : Turn) → Headed (A .none) m w h t r → Going m w h r
+  first-going m w h t Q E Stop e = absurd e
+  first-going m w h t Q E (Next s p d) (e, f) = rw e (Q, E, f)
+
+  pub more-going : (h : ℕ) (m m′ w′ : List ℕ) → ((k : ℕ) → k < A .entries → A .entryMark k ≡ A .none → ⊥) → Entered A m (A .entries)
+      → (r : Turn) → Advanced A h m r m′ w′ → Going m′ w′ h r
+  more-going h m m′ w′ reals E Stop n = n
+  more-going h m m′ w′ reals E (Next s p d) (Q, g, f) = (Q, entered-grows m m′ (A .entries) reals g E, f)

@@ -8,6 +8,8 @@ use lib.ListN.{length, getD, set}
 use lib.Dec.{eqb}
 use Rattle.depths.specs.declared.Visit.{Visit}
 use Rattle.depths.specs.declared.Visit.the-variants.{Clash, Tail}
+use Rattle.depths.specs.declared.Turn.{Turn}
+use Rattle.depths.specs.declared.Turn.the-variants.{Stop, Next}
 use Rattle.mcode.specs.Depths.{Analysis, mark, Marked, Follows, Fits, Fewest, NoneFits}
 
 -- how many positions are unmarked
@@ -49,6 +51,16 @@ Visited none m w t q d (Tail t′) m′ w′ =
 abbrev pub Stepped : Analysis → ℕ → List ℕ → Visit → List ℕ → List ℕ → Type 0
 Stepped A h m Clash m′ w′ = NoneFits A
 Stepped A h m (Tail t′) m′ w′ = Queue A m′ w′ h t′ × Grows A m m′
+
+-- the turn is that of the position at h, if one waits
+abbrev pub Headed : ℕ → List ℕ → List ℕ → ℕ → ℕ → Turn → Type 0
+Headed none m w h t Stop = ⊥
+Headed none m w h t (Next t′ p d) = (t′ ≡ t) × (h < t → (getD w h 0 ≡ p) × (getD m p none ≡ d))
+
+-- a step of the search that says whose turn is next
+abbrev pub Advanced : Analysis → ℕ → List ℕ → Turn → List ℕ → List ℕ → Type 0
+Advanced A h m Stop m′ w′ = NoneFits A
+Advanced A h m (Next t′ p d) m′ w′ = Queue A m′ w′ h t′ × Grows A m m′ × (h < t′ → (getD w′ h 0 ≡ p) × (getD m′ p (A .none) ≡ d))
 
 -- the entries are visited, or no assignment fits
 abbrev pub Started : Analysis → Visit → List ℕ → List ℕ → Type 0

@@ -8,11 +8,11 @@ use mcode::Flow;
 use mcode::Module;
 ghost use mathlib.Core.Path.{_≡_};
 ghost use Prim.Native.Nat.{_+_, _≤_, _<_};
-ghost use lib.ListN.{length, replicate};
+ghost use lib.ListN.{length, getD, replicate};
 ghost use Rattle.mcode.specs.Depths.{Answer};
 ghost use Rattle.mcode.specs.Layout.{Sound};
 ghost use Rattle.depths.specs.Lent.{depthsOf, Placed, Ready};
-ghost use Rattle.depths.specs.Queue.{free, Visited, Queue, Stepped, Started, Found};
+ghost use Rattle.depths.specs.Queue.{free, Visited, Queue, Headed, Advanced, Started, Found};
 
 // The queue's end after a visit, or a mark that cannot be.
 pub enum Visit {
@@ -41,11 +41,33 @@ fn enqueue(map: &mut [u8], work: &mut [u16], t: usize, q: usize, d: u8) -> Visit
     Visit::Clash
 }
 
-// Takes the position at h from the queue and visits its successors.
+// Where the search goes on: nowhere, or the queue's end, and the position whose turn is next with its mark, if one waits.
+pub enum Turn {
+    Stop,
+    Next(usize, usize, u8),
+}
+
+// The turn of the position at h.
+fn head(map: &[u8], work: &[u16], h: usize, t: usize) -> Turn
+    requires { ⌜ (h < t → (h < length (now work)) × (getD (now work) h 0 < length (now map))) ⌝ }
+    ensures { λ r. ⌜ Headed 255 (now (map .entry)) (now (work .entry)) h t r ⌝ }
+{
+    if h < t {
+        let p = work[h] as usize;
+        let d = map[p];
+        return Turn::Next(t, p, d);
+    }
+    Turn::Next(t, 0, 0)
+}
+
+// Takes the position p at h, of depth d, from the queue and visits its successors. Where no other position waits, as in straight
+// code, the turn of its only successor comes without a read of what was just written.
 fn expand(
     image: &[u8],
     map: &mut [u8],
     work: &mut [u16],
+    p: usize,
+    d: u8,
     h: usize,
     t: usize,
     count: usize,
@@ -55,24 +77,39 @@ fn expand(
     sizes: &[u8; 256],
     takes: &[u8; 256],
     leaves: &[u8; 256],
-) -> Visit
+) -> Turn
     requires { ⌜ Ready (now image) count (now procs) (now tables) m (now sizes) (now takes) (now leaves) ⌝ }
-    requires { ⌜ h < t ⌝ }
+    requires { ⌜ (h < t) × (getD (now work) h 0 ≡ p) × (getD (now map) p 255 ≡ d) ⌝ }
     requires { ⌜ Queue (depthsOf (now image) count (now procs) (now tables) m) (now map) (now work) h t ⌝ }
-    ensures { λ r. ⌜ Stepped (depthsOf (now (image .entry)) count (now (procs .entry)) (now (tables .entry)) m) (h + 1) (now (map .entry)) r (now (map .exit)) (now (work .exit)) ⌝ }
+    ensures { λ r. ⌜ Advanced (depthsOf (now (image .entry)) count (now (procs .entry)) (now (tables .entry)) m) (h + 1) (now (map .entry)) r (now (map .exit)) (now (work .exit)) ⌝ }
 {
-    let p = work[h] as usize;
-    let d = map[p];
     let f = rules::flow_at(image, p, d, count, procs, tables, m, sizes, takes, leaves);
     match f {
-        Flow::Fault => Visit::Clash,
-        Flow::Ends => Visit::Tail(t),
-        Flow::To(q, e) => enqueue(map, work, t, q, e),
+        Flow::Fault => Turn::Stop,
+        Flow::Ends => head(map, work, h + 1, t),
+        Flow::To(q, e) => {
+            let v = enqueue(map, work, t, q, e);
+            match v {
+                Visit::Clash => Turn::Stop,
+                Visit::Tail(s) => {
+                    if h + 1 < t {
+                        return head(map, work, h + 1, s);
+                    }
+                    Turn::Next(s, q, e)
+                }
+            }
+        }
         Flow::Fork(q, e, r, g) => {
             let v = enqueue(map, work, t, q, e);
             match v {
-                Visit::Clash => Visit::Clash,
-                Visit::Tail(s) => enqueue(map, work, s, r, g),
+                Visit::Clash => Turn::Stop,
+                Visit::Tail(s) => {
+                    let w = enqueue(map, work, s, r, g);
+                    match w {
+                        Visit::Clash => Turn::Stop,
+                        Visit::Tail(u) => head(map, work, h + 1, u),
+                    }
+                }
             }
         }
     }
@@ -133,33 +170,36 @@ fn drain(
     ensures { λ r. ⌜ Found (depthsOf (now (image .entry)) count (now (procs .entry)) (now (tables .entry)) m) r (now (map .exit)) ⌝ }
 {
     let mut h: usize = 0;
-    let mut t = until;
-    while h < t {
-        let v = expand(
-            image,
-            map,
-            work,
-            h,
-            t,
-            count,
-            procs,
-            tables,
-            m,
-            sizes,
-            takes,
-            leaves,
-        );
-        match v {
-            Visit::Clash => {
+    let mut turn = head(map, work, h, until);
+    loop {
+        match turn {
+            Turn::Stop => {
                 return false;
             }
-            Visit::Tail(s) => {
-                t = s;
+            Turn::Next(t, p, d) => {
+                if t <= h {
+                    return true;
+                }
+                turn = expand(
+                    image,
+                    map,
+                    work,
+                    p,
+                    d,
+                    h,
+                    t,
+                    count,
+                    procs,
+                    tables,
+                    m,
+                    sizes,
+                    takes,
+                    leaves,
+                );
+                h += 1;
             }
         }
-        h += 1;
     }
-    true
 }
 
 // Unmarks all.

@@ -5,7 +5,7 @@ use borrow.Author.Needs.{needs}
 use lib.Seq.{getD-set-same, getD-set-other, ext-getD}
 use lib.ListN.{length, getD, set, replicate, length-set, length-replicate, getD-replicate}
 use borrow.Author.Count.{below-more, below-none}
-use Prim.Native.Nat.{ℕ, _-_, _/_, _≤_, _<_}
+use Prim.Native.Nat.{ℕ, _-_, _≤_, _<_}
 use Rattle.depths.proofs.blank.Statement.{statement}
 use Rattle.depths.proofs.blank.Tie as tie
 

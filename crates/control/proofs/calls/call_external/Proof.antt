@@ -54,10 +54,9 @@ same-length c = search needs
 
 returns-2 : tie.Need-returns-2
 unfolding performOf call
-returns-2 c = (
-  (λ lent marks words h stack out. rw (le-ltb _ _ (c .before .before .before .before .before .before .if1 .left), h .image, h .tabled .modules (c .before .before .before .before .before .before .before .before .before .before .before .args .k) (omega (arith, c .before .before .before .before .before .before .before .before .before .before .before .pre .0 .few, c .before .before .before .before .before .before .before .before .before .before .before .pre .1 .1 .1 .0)), based (h .tabled) (c .before .before .before .before .before .before .before .before .before .before .before .pre .1 .1 .0) .own, ← c .before .before .before .before .before .entry-of .ensures, c .in-module .ensures, c .before .before .before .write-frame .ensures)),
-  anchored-in _ (c .before .before .before .before .before .before .before .before .before .before .before .args .k) _ _ _ (c .before .before .before .before .before .before .before .before .before .before .before .args .r) _ (omega (arith, c .before .before .before .before .before .before .before .before .before .before .before .pre .0 .few, c .before .before .before .before .before .before .before .before .before .before .before .pre .1 .1 .1 .0)) (c .in-module .ensures),
-)
+returns-2 c =
+    ((λ lent marks words h stack out. rw (le-ltb _ _ (c .before .before .before .before .before .before .if1 .left), h .image, h .tabled .modules (c .before .before .before .before .before .before .before .before .before .before .before .args .k) (omega (arith, c .before .before .before .before .before .before .before .before .before .before .before .pre .0 .few, c .before .before .before .before .before .before .before .before .before .before .before .pre .1 .1 .1 .0)), based (h .tabled) (c .before .before .before .before .before .before .before .before .before .before .before .pre .1 .1 .0) .own, ← c .before .before .before .before .before .entry-of .ensures, c .in-module .ensures, c .before .before .before .write-frame .ensures)),
+    anchored-in _ (c .before .before .before .before .before .before .before .before .before .before .before .args .k) _ _ _ (c .before .before .before .before .before .before .before .before .before .before .before .args .r) _ (omega (arith, c .before .before .before .before .before .before .before .before .before .before .before .pre .0 .few, c .before .before .before .before .before .before .before .before .before .before .before .pre .1 .1 .1 .0)) (c .in-module .ensures))
 
 pub call-external-spec : {M : Type 1} → statement M
 call-external-spec =

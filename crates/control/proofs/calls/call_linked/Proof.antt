@@ -71,10 +71,9 @@ same-length c = search needs
 
 returns-2 : tie.Need-returns-2
 unfolding performOf call
-returns-2 c = (
-  (λ lent marks words h out. rw (le-ltb _ _ (c .before .before .before .before .before .before .before .before .before .if1 .left), h .image, h .tabled .modules (c .before .before .before .before .before .before .before .before .before .before .before .before .before .before .args .r .unit) (omega (arith, c .before .before .before .before .before .before .before .before .before .before .before .before .before .before .pre .0 .few, c .before .before .before .before .before .before .before .before .before .before .before .before .before .before .pre .1 .0 .loaded)), ← c .before .before .before .before .before .before .before .entry-of .ensures, ← c .before .before .before .before .before .top-of .ensures, c .framed .ensures, c .before .before .before .write-frame .ensures)),
-  stays-framed _ _ _ _ (c .before .before .before .before .before .before .before .before .before .before .before .before .before .before .args .r) _ (c .framed .ensures),
-)
+returns-2 c =
+    ((λ lent marks words h out. rw (le-ltb _ _ (c .before .before .before .before .before .before .before .before .before .if1 .left), h .image, h .tabled .modules (c .before .before .before .before .before .before .before .before .before .before .before .before .before .before .args .r .unit) (omega (arith, c .before .before .before .before .before .before .before .before .before .before .before .before .before .before .pre .0 .few, c .before .before .before .before .before .before .before .before .before .before .before .before .before .before .pre .1 .0 .loaded)), ← c .before .before .before .before .before .before .before .entry-of .ensures, ← c .before .before .before .before .before .top-of .ensures, c .framed .ensures, c .before .before .before .write-frame .ensures)),
+    stays-framed _ _ _ _ (c .before .before .before .before .before .before .before .before .before .before .before .before .before .before .args .r) _ (c .framed .ensures))
 
 pub call-linked-spec : {M : Type 1} → statement M
 call-linked-spec =

@@ -1,0 +1,50 @@
+-- What the last two rows decode and ask. Assumes nothing.
+use mathlib.Core.Path.{_≡_, refl}
+use mathlib.Core.Bool.{Bool, true, false}
+use mathlib.Core.Logic.{inr}
+use mathlib.Core.List.{List}
+use Prim.Native.Nat.{ℕ, _+_, _-_, _/_, _≤_, _<_}
+use native.Mathlib.Omega.{arith}
+use lib.Dec.{eqb, ltb}
+use lib.ListN.{getD, length}
+use borrow.Author.Tests.{ne-eqb, eqb-true, eqb-false}
+use Rattle.mcode.specs.Word.{pick}
+use Rattle.mcode.specs.Image.{procCount}
+use Rattle.mcode.specs.Machine.{State, Outcome, halt, put}
+use Rattle.mcode.specs.Decode.{decodeOf, row15, sized, Call, Follow, Load}
+use Rattle.mcode.specs.Step.{Lent, performOf, followed, computed, goes, wordIn}
+use Rattle.mcode.specs.declared.Position.{Position}
+use Rattle.mcode.specs.declared.Registers.{Registers}
+use Rattle.mcode.specs.declared.Stop.the-variants.{BadAddress}
+use Rattle.mcode.specs.declared.Value.the-variants.{Is, Fault}
+use Rattle.actions.specs.declared.Core.{Core}
+use Rattle.actions.specs.Core.{operandAt}
+use Rattle.actions.specs.Table.{moduleIn}
+use Rattle.control.specs.Rows.{Controls}
+
+-- 351: one link from L is the word at L
+pub follow-one : (lent : Lent) (q : Position) (x : State) → performOf lent (Follow 1) q x ≡ performOf lent (Load (x .machine .registers .l)) q x
+unfolding performOf followed
+follow-one lent q x = choose (ltb (x .machine .registers .l .0) (length (x .store))) (wordIn x (x .machine .registers .l .0)) (λ v. goes x (put q (x .machine) v))
+  where
+    choose : (t : Bool) (v : ℕ) (f : ℕ → Outcome) → computed (pick t (Is v) (Fault BadAddress)) f ≡ pick t (f v) (halt BadAddress)
+    choose true v f = refl
+    choose false v f = refl
+
+-- 360 to 377
+pub decoded-call : (op b c : ℕ) (r : Registers) (bases : List ℕ) → op / 16 ≡ 15 → decodeOf op b c r bases ≡ sized (pick (eqb op 0o360) 2 1) (Call (pick (eqb op 0o360) b (op - 0o360)))
+unfolding decodeOf row15
+decoded-call op b c r bases row = rw (row, ne-eqb op 0o42 (λ e. omega (arith, row, e)), ne-eqb op 0o62 (λ e. omega (arith, row, e))) (choose (eqb op 0o360) (op - 0o360))
+  where
+    choose : (t : Bool) (k : ℕ) → pick t (sized 2 (Call b)) (sized 1 (Call k)) ≡ sized (pick t 2 1) (Call (pick t b k))
+    choose true k = refl
+    choose false k = refl
+
+-- the procedure that one of them names is there
+pub callee-exists : {image table : List ℕ} {w op : ℕ} {r : Core} → Controls image table w op r → op / 16 ≡ 15
+    → pick (eqb op 0o360) (operandAt image r 1) (op - 0o360) < procCount (moduleIn table (r .unit))
+callee-exists {image} {table} {w} {op} {r} h row = choose (eqb op 0o360) refl
+  where
+    choose : (t : Bool) → eqb op 0o360 ≡ t → pick t (operandAt image r 1) (op - 0o360) < procCount (moduleIn table (r .unit))
+    choose true t = h .near (inr (eqb-true op 0o360 t))
+    choose false t = h .fixed (omega (arith, row, eqb-false op 0o360 t))

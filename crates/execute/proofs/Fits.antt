@@ -1,0 +1,97 @@
+-- A machine asks nothing more of a step: what mcode proves of it, on a fitting map of an accepted image, is what the code requires.
+-- Assumes nothing.
+use mathlib.Core.Path.{_≡_, sym, ap, _∙_}
+use mathlib.Core.Bool.{true}
+use mathlib.Core.List.{List}
+use Prim.Native.Nat.{ℕ, _≤_, _<_, _+_, _-_}
+use lib.ListN.{getD, length}
+use native.Mathlib.Omega.{arith}
+use Rattle.mcode.specs.Opcode.{lengths, takens, lefts}
+use Rattle.mcode.specs.Image.{parse, moduleOf, codeByte}
+use Rattle.mcode.specs.Depths.{marksOf}
+use Rattle.mcode.specs.Machine.{isMachine, machine}
+use Rattle.mcode.specs.Demands.{OperandsExist, Operands}
+use Rattle.mcode.specs.declared.Module.{Module}
+use Rattle.mcode.specs.declared.Program.{Program}
+use Rattle.mcode.proofs.Standing.{Good, good-of, Rules, rules-at, follows-at}
+use Rattle.mcode.proofs.Operands.{operands-exist}
+use Rattle.actions.specs.declared.Core.{Core}
+use Rattle.actions.specs.Core.{shown, operandAt}
+use Rattle.actions.specs.Table.{moduleIn, Anchored}
+use Rattle.control.specs.Table.{countIn, Entered, Mapped}
+use Rattle.execute.specs.Stepping.{Asks, Prepared, opcodeAt}
+
+module _ (image table map : List ℕ) (w : ℕ) (P : Prepared image table map w) where
+  abbrev program : Program
+  program = parse image .program
+
+  few : countIn table ≤ 32
+  few = omega (arith, P .tabled .count, P .tabled .few)
+
+  loaded : (k : ℕ) → k < countIn table → k < program .count
+  loaded k h = omega (arith, P .tabled .count, h)
+
+  is : (k : ℕ) → k < countIn table → moduleOf program k ≡ moduleIn table k
+  is k h = P .tabled .modules k (omega (arith, few, h))
+
+  pub entered : Entered image table
+  entered = record {
+    few = few;
+    entries = λ k n h l. let s = P .told .laid .sound k (loaded k h) in omega (arith, rw (is k h) at (s .records), rw (is k h) at (s .within), l);
+  }
+
+  pub mapped : Mapped table map
+  mapped = record {
+    few = few;
+    marks = λ k h. omega (arith, rw (is k h) at (P .told .laid .sound k (loaded k h) .within), P .covers);
+  }
+
+  module _ (stack : List ℕ) (r : Core) (good : isMachine program map w (machine (shown r) stack) ≡ true) (anchored : Anchored table r) where
+    own : moduleOf program (r .unit) ≡ moduleIn table (r .unit)
+    own = P .tabled .modules (r .unit) (anchored .few)
+
+    start : moduleOf program (r .unit) .code ≡ r .start
+    start = ap (λ (m : Module). m .code) own ∙ sym (anchored .start)
+
+    operands : Operands program (moduleOf program (r .unit)) (opcodeAt image r) (operandAt image r 1) (operandAt image r 2)
+    unfolding OperandsExist
+    operands = rw start at (operands-exist image map (P .fits) w (machine (shown r) stack) good)
+
+    in-table : (k : ℕ) → k < program .count → k < countIn table
+    in-table k h = omega (arith, h, P .tabled .count)
+
+    abbrev u : Module
+    u = moduleOf program (r .unit)
+
+    g : Good program map w (machine (shown r) stack)
+    g = good-of program map w (machine (shown r) stack) good
+
+    rules : Rules image program u (marksOf map u) (r .pc) (r .depth) (codeByte image u (r .pc)) (codeByte image u (r .pc + 1)) (codeByte image u (r .pc + 2))
+    rules = rules-at image program u (marksOf map u) (r .pc) (r .depth) (follows-at image program map (P .fits) (r .unit) (r .pc) (r .depth) (g .at))
+
+    pub listed-of : 1 ≤ getD lengths (opcodeAt image r) 0
+    listed-of = rw start at (rules .listed)
+
+    pub asks-of : Asks image table map w (opcodeAt image r) r
+    asks-of =
+        let sound = P .told .laid .sound (r .unit) (g .at .loaded) in
+        let found : getD takens (opcodeAt image r) 0 ≤ r .depth = rw start at (rules .found) in
+        let room : r .depth - getD takens (opcodeAt image r) 0 + getD lefts (opcodeAt image r) 0 ≤ 16 = rw start at (rules .room) in
+        let whole : r .pc + getD lengths (opcodeAt image r) 0 ≤ u .length = rw start at (rules .whole) in
+        let end : r .start + u .length ≤ length image = rw start at (sound .within) in
+        let short : r .pc + getD lengths (opcodeAt image r) 0 ≤ 32767 = omega (arith, whole, sound .short) in
+        record {
+          listed = λ n. listed-of;
+          named = λ e. in-table _ (operands .named e);
+          controls = record {
+            ready = record { deep = found; room = omega (arith, found, room); most = g .at .few; bytes = omega (arith, whole, end); near = omega (arith, short) };
+            framed = record { loaded = in-table _ (g .at .loaded); most = g .at .few; low = g .low; high = g .high; proc = g .proc; short = P .small };
+            entered = entered;
+            far = λ e. let l = in-table _ (operands .far e .0) in (l, rw (is (operandAt image r 1) l) at (operands .far e .1));
+            near = λ e. rw own at (operands .near e);
+            fixed = λ l. rw own at (operands .fixed l);
+            inside = short;
+          };
+          mapped = mapped;
+          anchored = anchored;
+        }

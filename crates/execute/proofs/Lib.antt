@@ -1,0 +1,4 @@
+pub mod Laws
+pub mod Fits
+pub mod Whole
+pub mod Went

@@ -1,0 +1,113 @@
+// The step of a machine by value: its registers as the stepping loop holds them, one turn, and the machine again.
+use crate::turn;
+use actions::Core;
+use control::table::number;
+use mcode::Address;
+use mcode::Machine;
+use mcode::Position;
+use mcode::Registers;
+ghost use mathlib.Core.Path.{_≡_};
+ghost use mathlib.Core.Bool.{true};
+ghost use Prim.Native.Nat.{_≤_, _<_};
+ghost use lib.ListN.{length};
+ghost use Rattle.mcode.specs.Image.{parse};
+ghost use Rattle.mcode.specs.Machine as M;
+ghost use Rattle.mcode.specs.Machine.{isMachine, state};
+ghost use Rattle.mcode.specs.Step.{stepOf};
+ghost use Rattle.mcode.specs.Run.{lentTo};
+ghost use Rattle.actions.specs.Core.{shown, leftBy};
+ghost use Rattle.actions.specs.Table.{Anchored};
+ghost use Rattle.execute.specs.Stepping.{Prepared, answered};
+
+// What a step leaves: 0 and the machine after it, or a stop with its code and the machine as it was.
+pub struct Next {
+    pub stop: u32,
+    pub code: u32,
+    pub machine: Machine,
+}
+
+// The registers with the numbers of their module.
+pub fn core_of(registers: Registers, table: &[u16; 193]) -> Core
+    requires { ⌜ registers .unit < 32 ⌝ }
+    ensures { λ q. ⌜ (shown q ≡ registers) × Anchored (now (table .entry)) q ⌝ }
+{
+    let k = registers.unit as usize;
+    let pc = registers.pc.0 as usize;
+    let depth = registers.depth;
+    let start = number(table, k, 1) as usize;
+    let unit = registers.unit as u16;
+    let base = number(table, k, 4);
+    let g = Address(base);
+    let l = registers.l;
+    let s = registers.s;
+    let h = registers.h;
+    let p = registers.p;
+    let mask = registers.mask;
+    Core {
+        pc,
+        depth,
+        start,
+        unit,
+        g,
+        l,
+        s,
+        h,
+        p,
+        mask,
+    }
+}
+
+// The machine of these registers.
+pub fn machine_of(r: Core, stack: [u16; 16]) -> Machine
+    requires { ⌜ (r .unit < 32) × (r .pc ≤ 32767) ⌝ }
+    ensures { λ q. ⌜ q ≡ M.machine (shown r) stack ⌝ }
+{
+    let unit = r.unit as u8;
+    let place = r.pc as u16;
+    let pc = Position(place);
+    let l = r.l;
+    let s = r.s;
+    let h = r.h;
+    let p = r.p;
+    let mask = r.mask;
+    let depth = r.depth;
+    let registers = Registers {
+        unit,
+        pc,
+        l,
+        s,
+        h,
+        p,
+        mask,
+        depth,
+    };
+    Machine { registers, stack }
+}
+
+// One step. It goes through turn, as the stepping loop does: a program that has one of the two has one copy of the rows.
+pub fn step(
+    machine: Machine,
+    image: &[u8],
+    table: &[u16; 193],
+    map: &[u8],
+    store: &mut [u16],
+    inputs: &[u16],
+    outputs: &mut [u16],
+) -> Next
+    requires { ⌜ Prepared (now image) (now table) (now map) (length (now store)) ⌝ }
+    requires { ⌜ isMachine (parse (now image) .program) (now map) (length (now store)) machine ≡ true ⌝ }
+    requires { ⌜ (length (now inputs) ≡ 16) × (length (now outputs) ≡ 16) ⌝ }
+    ensures { λ q. ⌜ answered q (now (store .exit)) (now (outputs .exit)) ≡ leftBy (state machine (now (store .entry)) (now (outputs .entry))) (stepOf (lentTo (now (image .entry)) (now (map .entry)) (now (inputs .entry))) (state machine (now (store .entry)) (now (outputs .entry)))) ⌝ }
+{
+    let registers = machine.registers;
+    let mut stack = machine.stack;
+    let r = core_of(registers, table);
+    let s = turn(1, r, image, table, map, &mut stack, store, inputs, outputs);
+    let core = s.core;
+    let after = machine_of(core, stack);
+    Next {
+        stop: s.stop,
+        code: s.code,
+        machine: after,
+    }
+}

@@ -9,7 +9,7 @@ use crate::leaf::top_of;
 use mcode::Value;
 ghost use mathlib.Core.Path.{_≡_};
 ghost use mathlib.Core.List.{List};
-ghost use Prim.Native.Nat.{ℕ, _+_, _-_, _≤_, _<_};
+ghost use Prim.Native.Nat.{ℕ, _≤_, _<_};
 ghost use Rattle.mcode.specs.Machine as M;
 ghost use Rattle.mcode.specs.Step.{Lent};
 ghost use Rattle.mcode.specs.Decode as Act;
@@ -37,7 +37,7 @@ pub fn add_top(r: Core, stack: &mut [u16; 16], b: u16, to: usize) -> Stepped
     )
 }
 
-// 265
+// 265 puts a again.
 pub fn copy(r: Core, stack: &mut [u16; 16], to: usize) -> Stepped
     requires { ⌜ (0 < r .depth) × (r .depth < 16) ⌝ }
     ensures { λ q. ⌜ ((lent : Lent) (store out : List ℕ) → result q (now (stack .exit)) store out ≡ acted lent Act.Copy to (held r (now (stack .entry)) store out)) × Stays r (q .core) ⌝ }
@@ -45,12 +45,12 @@ pub fn copy(r: Core, stack: &mut [u16; 16], to: usize) -> Stepped
     put_word(r, stack, top_of(r, stack), to)
 }
 
-// 304: trap 40 with code a.
+// 304 is trap 40 with code a.
 pub fn trap(r: Core, stack: &[u16; 16]) -> Stepped
     requires { ⌜ (0 < r .depth) × (r .depth ≤ 16) ⌝ }
     ensures { λ q. ⌜ ((lent : Lent) (to : ℕ) (store out : List ℕ) → result q (now (stack .entry)) store out ≡ acted lent Act.Trap to (held r (now (stack .entry)) store out)) × Stays r (q .core) ⌝ }
 {
-    halted(r, 40, top_of(r, stack) as u32)
+    halted(r, 40, top_of(r, stack))
 }
 
 // v in the place of two words.

@@ -11,7 +11,7 @@ use crate::leaf::take_word;
 use crate::leaf::top_of;
 ghost use mathlib.Core.Path.{_≡_};
 ghost use mathlib.Core.List.{List};
-ghost use Prim.Native.Nat.{ℕ, _+_, _-_, _≤_, _<_};
+ghost use Prim.Native.Nat.{ℕ, _+_, _≤_, _<_};
 ghost use lib.ListN.{length};
 ghost use Rattle.mcode.specs.Word.{wordOf};
 ghost use Rattle.mcode.specs.Depths.{forward as ahead, back as behind};

@@ -5,7 +5,7 @@ use mcode::Stop;
 use mcode::stop_code;
 use mcode::stop_number;
 ghost use mathlib.Core.Path.{_≡_};
-ghost use Prim.Native.Nat.{_+_, _-_, _≤_, _<_, _%_, _*_};
+ghost use Prim.Native.Nat.{_+_, _-_, _≤_, _<_, _*_};
 ghost use lib.ListN.{length, getD, set};
 ghost use Rattle.mcode.specs.Word.{wordOf};
 ghost use Rattle.mcode.specs.Depths.{forward as ahead, back as behind};
@@ -93,13 +93,11 @@ pub fn third_of(r: Core, stack: &[u16; 16]) -> u16
     stack[d - 3]
 }
 
-// A stop with its code, the registers as they were. The fields are copied one by one: a copy of the whole struct keeps the
-// compiler from holding each in a register of its own.
-pub fn halted(r: Core, stop: u32, code: u32) -> Stepped
-    ensures { λ q. ⌜ q ≡ stepped stop code r ⌝ }
+// The registers at a place of the code and a depth, with a stop and its code. The fields are copied one by one: a copy of the
+// whole struct keeps the compiler from holding each in a register of its own.
+fn placed(r: Core, pc: usize, depth: usize, stop: u32, code: u16) -> Stepped
+    ensures { λ q. ⌜ q ≡ stepped stop code (at pc depth r) ⌝ }
 {
-    let pc = r.pc;
-    let depth = r.depth;
     let start = r.start;
     let unit = r.unit;
     let g = r.g;
@@ -127,6 +125,13 @@ pub fn halted(r: Core, stop: u32, code: u32) -> Stepped
     }
 }
 
+// A stop with its code, the registers as they were.
+pub fn halted(r: Core, stop: u32, code: u16) -> Stepped
+    ensures { λ q. ⌜ q ≡ stepped stop code r ⌝ }
+{
+    placed(r, r.pc, r.depth, stop, code)
+}
+
 pub fn trapped(r: Core, stop: u32) -> Stepped
     ensures { λ q. ⌜ q ≡ stepped stop 0 r ⌝ }
 {
@@ -137,39 +142,14 @@ pub fn trapped(r: Core, stop: u32) -> Stepped
 pub fn faulted(r: Core, stop: Stop) -> Stepped
     ensures { λ q. ⌜ q ≡ stepped (stopNumber stop) (stopCode stop) r ⌝ }
 {
-    halted(r, stop_number(stop) as u32, stop_code(stop) as u32)
+    halted(r, stop_number(stop) as u32, stop_code(stop))
 }
 
-// No stop: the registers at a place of the code and a depth.
+// No stop: on at a place of the code, with a depth.
 pub fn gone(r: Core, depth: usize, to: usize) -> Stepped
     ensures { λ q. ⌜ q ≡ stepped 0 0 (at to depth r) ⌝ }
 {
-    let pc = to;
-    let start = r.start;
-    let unit = r.unit;
-    let g = r.g;
-    let l = r.l;
-    let s = r.s;
-    let h = r.h;
-    let p = r.p;
-    let mask = r.mask;
-    let q = Core {
-        pc,
-        depth,
-        start,
-        unit,
-        g,
-        l,
-        s,
-        h,
-        p,
-        mask,
-    };
-    Stepped {
-        stop: 0,
-        code: 0,
-        core: q,
-    }
+    placed(r, to, depth, 0, 0)
 }
 
 pub fn take_word(r: Core, stack: &mut [u16; 16], to: usize) -> Stepped

@@ -18,7 +18,7 @@ pub struct Core {
 // What a step answers: 0 and the registers after it, or a stop.
 pub struct Stepped {
     pub stop: u32,
-    pub code: u32,
+    pub code: u16,
     pub core: Core,
 }
 

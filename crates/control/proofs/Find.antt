@@ -7,14 +7,14 @@ use Prim.Native.Nat.{ℕ, zero, suc, _+_, _-_, _*_, _<_, _≤_}
 use native.Mathlib.Omega.{arith}
 use lib.Dec.{eqb, ltb}
 use lib.ListN.{length, getD, length-map, List·getD-eq-default}
-use borrow.Author.Tests.{eq-eqb, ne-eqb, eqb-true, eqb-false, ltb-true, le-ltb}
+use borrow.Author.Tests.{eq-eqb, ne-eqb, ltb-true, le-ltb}
 use Rattle.mcode.specs.Word.{pick, and}
-use Rattle.mcode.specs.Image.{moduleOf, basesOf, noModule}
+use Rattle.mcode.specs.Image.{basesOf, noModule}
 use Rattle.mcode.specs.Depths.{marked}
 use Rattle.mcode.specs.Step.{Lent, unitOf, unitBased, standing}
 use Rattle.mcode.specs.declared.Module.{Module}
 use Rattle.mcode.proofs.Tests.{and-both}
-use Rattle.actions.specs.Table.{moduleIn, Tabled, Lends}
+use Rattle.actions.specs.Table.{moduleIn, Lends}
 use Rattle.control.specs.Table.{countIn, firstFrom, firstBased, standsIn, Mapped}
 use Rattle.control.proofs.Laws.{base-in}
 

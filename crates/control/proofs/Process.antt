@@ -103,6 +103,6 @@ pub switched-in : {bytes table marks words : List ℕ} {lent : Lent} → Lends b
     → leftBy (held r stack store out) (switched lent b (position to) c q (held r stack store out))
     ≡ result (stepped 0 0 (resumed table (firstBased table (processAt store q .g)) b q (processAt store q) r))
     (restored store (processAt store q .k) (processAt store q .s - 1 - processAt store q .k) (replicate 16 0))
-    (savedStore (r .g .0) (position to) c (held r stack store out) (r .depth - 2)) out
-unfolding switched restoredMachine
+    (savedStore (r .g .0) (position to) c (held r stack store []) (r .depth - 2)) out
+unfolding switched restoredMachine savedStore
 switched-in h r a b to c q stack store out s e = rw (process-in h (length store) q (processAt store q), s, e, find h _ _ _ e, based (h .tabled) a .own)

@@ -1,8 +1,9 @@
 -- Frames in the store and in the registers.
 use mathlib.Core.List.{List}
 use Prim.Native.Nat.{ℕ, _+_, _≤_, _<_}
-use lib.ListN.{getD, set}
+use lib.ListN.{set}
 use Rattle.mcode.specs.Machine.{address}
+use Rattle.mcode.specs.declared.Address.{Address}
 use Rattle.actions.specs.declared.Core.{Core}
 use Rattle.actions.specs.Table.{moduleIn}
 use Rattle.control.specs.Table.{countIn}
@@ -17,24 +18,21 @@ pub record Framed (table : List ℕ) (w : ℕ) (r : Core) : Type 0 where
   pub proc : r .p .0 + 8 ≤ w
   pub short : w ≤ 65535
 
--- the registers at a position and a depth, with this frame
-abbrev pub inFrame : ℕ → ℕ → ℕ → ℕ → Core → Core
-inFrame to d l s r = record { pc = to; depth = d; start = r .start; unit = r .unit; g = r .g; l = address l; s = address s; h = r .h; p = r .p; mask = r .mask }
+-- what a save asks of it
+abbrev pub Roomy : ℕ → Core → Type 0
+Roomy w r = (r .s .0 ≤ r .h .0) × (r .h .0 + 24 ≤ w) × (r .p .0 + 8 ≤ w) × (w ≤ 65535)
 
--- the same in module k
+-- the registers at a position and a depth, in the module of this start, number and base, with this frame
+abbrev pub placed : ℕ → ℕ → Address → ℕ → ℕ → ℕ → ℕ → Core → Core
+placed start unit g to d l s r = record { pc = to; depth = d; start = start; unit = unit; g = g; l = address l; s = address s; h = r .h; p = r .p; mask = r .mask }
+
+-- in the module of the registers
+abbrev pub inFrame : ℕ → ℕ → ℕ → ℕ → Core → Core
+inFrame to d l s r = placed (r .start) (r .unit) (r .g) to d l s r
+
+-- in module k, at the depth of the registers
 abbrev pub inModule : List ℕ → ℕ → ℕ → ℕ → ℕ → Core → Core
-inModule table k to l s r = record {
-  pc = to;
-  depth = r .depth;
-  start = moduleIn table k .code;
-  unit = k;
-  g = address (moduleIn table k .base);
-  l = address l;
-  s = address s;
-  h = r .h;
-  p = r .p;
-  mask = r .mask;
-}
+inModule table k to l s r = placed (moduleIn table k .code) k (address (moduleIn table k .base)) to (r .depth) l s r
 
 -- the three words of a frame
 abbrev pub frame : List ℕ → ℕ → ℕ → ℕ → ℕ → List ℕ

@@ -1,5 +1,4 @@
 -- What calls, returns and transfers read in the lent numbers, and what they ask of them.
-use mathlib.Core.Path.{_≡_}
 use mathlib.Core.Bool.{Bool}
 use mathlib.Core.List.{List}
 use Prim.Native.Nat.{ℕ, zero, suc, _+_, _*_, _≤_, _<_}

@@ -28,6 +28,15 @@ fn write_frame(store: &mut [u16], s: usize, link: u16, l: u16, mark: u16)
     store[s + 2] = mark;
 }
 
+// The frame of 355: the link is G, and the next position has 8000 hex more.
+fn write_external(r: Core, store: &mut [u16], to: usize)
+    requires { ⌜ (r .s .0 + 3 ≤ length (now store)) × (to < 32768) ⌝ }
+    ensures { λ q. ⌜ now (store .exit) ≡ frame (now (store .entry)) (r .s .0) (r .g .0) (r .l .0) (to + 32768) ⌝ }
+{
+    let s = r.s.0 as usize;
+    write_frame(store, s, r.g.0, r.l.0, to as u16 + 32768);
+}
+
 // 360 n, 361 to 377: procedure n of this module; the link is L.
 pub fn call(
     r: Core,
@@ -86,7 +95,7 @@ pub fn call_linked(
     framed(r, d - 1, entry, t, t + 4)
 }
 
-// 355 k n: procedure n of module k; the link is G, and the next position is marked with 8000 hex.
+// 355 k n: procedure n of module k.
 pub fn call_external(
     r: Core,
     image: &[u8],
@@ -109,7 +118,7 @@ pub fn call_external(
     }
     let i = k as usize;
     let entry = entry_of(image, table, i, n) as usize;
-    write_frame(store, s, r.g.0, r.l.0, to as u16 + 32768);
+    write_external(r, store, to);
     let t = r.s.0;
     in_module(r, table, i, entry, t, t + 4)
 }

@@ -16,16 +16,22 @@ ghost use Rattle.mcode.specs.Step.{Lent, backTo, unitBased};
 ghost use Rattle.actions.specs.Core.{held, result, leftBy, acted, Stays, stepped};
 ghost use Rattle.actions.specs.Table.{Anchored, Lends};
 ghost use Rattle.control.specs.Table.{Mapped};
-ghost use Rattle.control.specs.Frames.{Framed, inFrame, inModule};
+ghost use Rattle.control.specs.Frames.{Framed, placed, inFrame, inModule};
 
-// No stop: the registers at a place of the code and a depth, with another frame.
-pub fn framed(r: Core, depth: usize, to: usize, frame: u16, top: u16) -> Stepped
-    ensures { λ q. ⌜ q ≡ stepped 0 0 (inFrame to depth frame top r) ⌝ }
+// No stop: the registers at a place of the code and a depth, in a module, with another frame.
+fn settled(
+    r: Core,
+    depth: usize,
+    to: usize,
+    start: usize,
+    unit: u16,
+    g: Address,
+    frame: u16,
+    top: u16,
+) -> Stepped
+    ensures { λ q. ⌜ q ≡ stepped 0 0 (placed start unit g to depth frame top r) ⌝ }
 {
     let pc = to;
-    let start = r.start;
-    let unit = r.unit;
-    let g = r.g;
     let l = Address(frame);
     let s = Address(top);
     let h = r.h;
@@ -50,39 +56,21 @@ pub fn framed(r: Core, depth: usize, to: usize, frame: u16, top: u16) -> Stepped
     }
 }
 
-// The same in module k, at the depth of the registers.
+// In the module of the registers.
+pub fn framed(r: Core, depth: usize, to: usize, frame: u16, top: u16) -> Stepped
+    ensures { λ q. ⌜ q ≡ stepped 0 0 (inFrame to depth frame top r) ⌝ }
+{
+    settled(r, depth, to, r.start, r.unit, r.g, frame, top)
+}
+
+// In module k, at the depth of the registers.
 pub fn in_module(r: Core, table: &[u16; 193], k: usize, to: usize, frame: u16, top: u16) -> Stepped
     requires { ⌜ k < 32 ⌝ }
     ensures { λ q. ⌜ q ≡ stepped 0 0 (inModule (now (table .entry)) k to frame top r) ⌝ }
 {
-    let pc = to;
-    let depth = r.depth;
     let start = number(table, k, 1) as usize;
-    let unit = k as u16;
     let base = number(table, k, 4);
-    let g = Address(base);
-    let l = Address(frame);
-    let s = Address(top);
-    let h = r.h;
-    let p = r.p;
-    let mask = r.mask;
-    let q = Core {
-        pc,
-        depth,
-        start,
-        unit,
-        g,
-        l,
-        s,
-        h,
-        p,
-        mask,
-    };
-    Stepped {
-        stop: 0,
-        code: 0,
-        core: q,
-    }
+    settled(r, r.depth, to, start, k as u16, Address(base), frame, top)
 }
 
 // 353 b: "S+b above H is 33, else S += b."

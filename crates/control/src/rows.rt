@@ -16,7 +16,7 @@ ghost use mathlib.Core.Path.{_≡_};
 ghost use mathlib.Core.List.{List};
 ghost use Prim.Native.Nat.{ℕ, _+_, _-_, _≤_, _<_, _/_};
 ghost use lib.Dec.{eqb};
-ghost use lib.ListN.{length, getD};
+ghost use lib.ListN.{length};
 ghost use Rattle.mcode.specs.Word.{pick};
 ghost use Rattle.mcode.specs.Step.{Lent};
 ghost use Rattle.actions.specs.Core.{held, result, instruction, performed, spentOp, operandAt};
@@ -25,7 +25,15 @@ ghost use Rattle.control.specs.Table.{Mapped};
 ghost use Rattle.control.specs.Rows.{Controls};
 
 // 350, 351, 353 to 356. 340 is the spent opcode, which asks nothing. The others of the row are not listed.
-pub fn row14(op: u8, r: Core, image: &[u8], table: &[u16; 193], map: &[u8], stack: &mut [u16; 16], store: &mut [u16]) -> Stepped
+pub fn row14(
+    op: u8,
+    r: Core,
+    image: &[u8],
+    table: &[u16; 193],
+    map: &[u8],
+    stack: &mut [u16; 16],
+    store: &mut [u16],
+) -> Stepped
     requires { ⌜ op / 16 ≡ 14 ⌝ }
     requires { ⌜ ((op ≡ spentOp → ⊥) → Controls (now image) (now table) (length (now store)) op r × Mapped (now table) (now map)) ⌝ }
     requires { ⌜ Anchored (now table) r ⌝ }
@@ -37,8 +45,24 @@ pub fn row14(op: u8, r: Core, image: &[u8], table: &[u16; 193], map: &[u8], stac
         0o351 => load(r, stack, store, r.l, r.pc + 1),
         0o353 => enter(r, operand(r, image, 1), r.pc + 2),
         0o354 => return_from(r, table, map, store),
-        0o355 => call_external(r, image, table, store, operand(r, image, 1), operand(r, image, 2), r.pc + 3),
-        0o356 => call_linked(r, image, table, stack, store, operand(r, image, 1), r.pc + 2),
+        0o355 => call_external(
+            r,
+            image,
+            table,
+            store,
+            operand(r, image, 1),
+            operand(r, image, 2),
+            r.pc + 3,
+        ),
+        0o356 => call_linked(
+            r,
+            image,
+            table,
+            stack,
+            store,
+            operand(r, image, 1),
+            r.pc + 2,
+        ),
         _ => nothing(r, r.pc),
     }
 }

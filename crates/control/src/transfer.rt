@@ -9,6 +9,7 @@ use actions::leaf::take_two;
 use actions::leaf::top_of;
 use actions::leaf::trapped;
 use mcode::Address;
+use mcode::Machine;
 ghost use mathlib.Core.Path.{_≡_};
 ghost use mathlib.Core.Bool.{true};
 ghost use mathlib.Core.List.{List, [], _∷_};
@@ -22,7 +23,7 @@ ghost use Rattle.mcode.specs.Step.{Lent, processAt, saved, restored, written, s
 ghost use Rattle.actions.specs.Core.{held, result, leftBy, acted, stepped};
 ghost use Rattle.actions.specs.Table.{Anchored, Lends};
 ghost use Rattle.control.specs.Table.{Mapped};
-ghost use Rattle.control.specs.Frames.{Framed};
+ghost use Rattle.control.specs.Frames.{Framed, Roomy};
 ghost use Rattle.control.specs.Transfer.{sized, resumed};
 
 fn word_at(store: &[u16], i: usize) -> u16
@@ -42,7 +43,7 @@ fn is_sized(store: &[u16], q: usize) -> bool
         return false;
     }
     let v = word_at(store, q + 5) as usize;
-    if v < 24 {
+    if v < Machine::MARGIN {
         return false;
     }
     if w < v {
@@ -62,7 +63,7 @@ fn is_sized(store: &[u16], q: usize) -> bool
     if s <= k {
         return false;
     }
-    s - 1 - k <= v - 24
+    s - 1 - k <= v - Machine::MARGIN
 }
 
 // The k words that stand top first from the word at a up, as a stack.
@@ -104,8 +105,8 @@ fn resume(r: Core, table: &[u16; 193], store: &[u16], k: usize, b: u16, q: u16) 
     let frame = word_at(store, i + 1);
     let l = Address(frame);
     let s = Address(above - 1 - n);
-    let limit = word_at(store, i + 5);
-    let h = Address(limit - 24);
+    let limit = word_at(store, i + 5) as usize;
+    let h = Address((limit - Machine::MARGIN) as u16);
     let p = Address(q);
     let mask = mask_of(r, b, word_at(store, i + 3));
     let core = Core {
@@ -155,14 +156,15 @@ fn write_record(store: &mut [u16], p: usize, g: u16, l: u16, at: u16, mask: u16,
 
 // The process of the registers, with d words left on its stack, into the store; then word c.
 fn save_process(r: Core, stack: &[u16; 16], store: &mut [u16], d: usize, c: usize, to: usize)
-    requires { ⌜ (r .s .0 ≤ r .h .0) × (r .h .0 + 24 ≤ length (now store)) × (r .p .0 + 8 ≤ length (now store)) × (length (now store) ≤ 65535) ⌝ }
+    requires { ⌜ Roomy (length (now store)) r ⌝ }
     requires { ⌜ (d ≤ 16) × (c < length (now store)) × (to < 65536) ⌝ }
-    ensures { λ q. ⌜ ((out : List ℕ) → now (store .exit) ≡ savedStore (r .g .0) (position to) c (held r (now (stack .entry)) (now (store .entry)) out) d) ⌝ }
+    ensures { λ q. ⌜ now (store .exit) ≡ savedStore (r .g .0) (position to) c (held r (now (stack .entry)) (now (store .entry)) []) d ⌝ }
 {
     let s = r.s.0 as usize;
     save_words(stack, store, d, s);
     store[s + d] = d as u16;
     let p = r.p.0 as usize;
+    let h = r.h.0 as usize;
     write_record(
         store,
         p,
@@ -171,14 +173,29 @@ fn save_process(r: Core, stack: &[u16; 16], store: &mut [u16], d: usize, c: usiz
         to as u16,
         r.mask,
         (s + d + 1) as u16,
-        r.h.0 + 24,
+        (h + Machine::MARGIN) as u16,
     );
     store[c] = r.p.0;
 }
 
-fn set_stack(stack: &mut [u16; 16], words: [u16; 16])
-    ensures { λ q. ⌜ now (stack .exit) ≡ words ⌝ }
+// The same, and the n words from the word at a up, as they were before, in the place of the stack.
+fn exchange(
+    r: Core,
+    stack: &mut [u16; 16],
+    store: &mut [u16],
+    a: usize,
+    n: usize,
+    d: usize,
+    c: usize,
+    to: usize,
+)
+    requires { ⌜ (n ≤ 16) × (a + n ≤ length (now store)) ⌝ }
+    requires { ⌜ Roomy (length (now store)) r ⌝ }
+    requires { ⌜ (d ≤ 16) × (c < length (now store)) × (to < 65536) ⌝ }
+    ensures { λ q. ⌜ (now (stack .exit) ≡ restored (now (store .entry)) n a (replicate 16 0)) × (now (store .exit) ≡ savedStore (r .g .0) (position to) c (held r (now (stack .entry)) (now (store .entry)) []) d) ⌝ }
 {
+    let words = words_at(store, a, n);
+    save_process(r, stack, store, d, c, to);
     *stack = words;
 }
 
@@ -210,11 +227,9 @@ fn switch(
     if !stands(table, map, k, word_at(store, i + 2), n) {
         return trapped(r, 35);
     }
-    let words = words_at(store, s - 1 - n, n);
     let next = resume(r, table, store, k, b, q);
     let d = r.depth;
-    save_process(r, stack, store, d - 2, c, to);
-    set_stack(stack, words);
+    exchange(r, stack, store, s - 1 - n, n, d - 2, c, to);
     next
 }
 

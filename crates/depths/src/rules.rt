@@ -9,7 +9,7 @@ ghost use Rattle.mcode.specs.Word.{byte, word, or, and};
 ghost use Rattle.mcode.specs.Opcode.{lengths, takens, lefts};
 ghost use Rattle.mcode.specs.Image.{moduleOf, procCount, entryOf, paramsOf, resultsOf};
 ghost use Rattle.mcode.specs.Depths.{target, jumps, calls, callsIn, namesModule, onward, flowAt};
-ghost use Rattle.depths.specs.Lent.{lightOf, Placed, Ready};
+ghost use Rattle.depths.specs.Lent.{lightOf, plain, Placed, Ready};
 
 // A byte as a number.
 pub fn wide(x: u8) -> usize
@@ -224,6 +224,22 @@ fn names_module(op: u8) -> bool
     false
 }
 
+// An instruction whose only successor is the next one: none of these, and no call.
+fn is_plain(op: u8) -> bool
+    ensures { λ r. ⌜ r ≡ plain op ⌝ }
+{
+    if ends(op) {
+        return false;
+    }
+    if is_jump(op) {
+        return false;
+    }
+    if names_module(op) {
+        return false;
+    }
+    op < 0o355
+}
+
 // After a listed instruction op whose operand bytes are b and c, with the next one at n and the depth e that its row says.
 fn onward_at(
     image: &[u8],
@@ -305,6 +321,9 @@ pub fn flow_at(
     let e = depth - taken + left_of(leaves, op);
     if 16 < e {
         return Flow::Fault;
+    }
+    if is_plain(op) {
+        return Flow::To(n, e as u8);
     }
     let b = byte_at(image, m.code + (p + 1));
     let c = byte_at(image, m.code + (p + 2));

@@ -1,1 +1,7 @@
 pub mod Load
+pub mod Begin
+pub mod Numbers
+pub mod Stops
+pub mod Judged
+pub mod Ran
+pub mod Whole

@@ -1,2 +1,8 @@
 // The engine: load, start and run.
+pub mod judge;
 pub mod load;
+pub mod reading;
+pub mod run;
+pub mod start;
+pub mod stops;
+pub mod table;

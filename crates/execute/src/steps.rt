@@ -22,7 +22,7 @@ ghost use Rattle.execute.specs.Stepping.{Prepared, answered};
 // What a step leaves: 0 and the machine after it, or a stop with its code and the machine as it was.
 pub struct Next {
     pub stop: u32,
-    pub code: u32,
+    pub code: u16,
     pub machine: Machine,
 }
 

@@ -41,9 +41,12 @@ add-small (negsuc a) (negsuc b) hx hy = omega arith
 pub add-mag : (x y : ℤ) → mag x < 32768 → mag y < 32768 → mag (x +ℤ y) < 2147483648
 add-mag x y hx hy = add-small x y (omega arith) (omega arith)
 
+mag-neg-pred : (n k : ℕ) → n ≤ suc k → mag (negℤ (pos n)) ≤ k
+mag-neg-pred zero k h = omega arith
+mag-neg-pred (suc n) k h = omega arith
+
 mag-neg-pos : (n : ℕ) → mag (negℤ (pos n)) ≤ n
-mag-neg-pos zero = omega arith
-mag-neg-pos (suc n) = omega arith
+mag-neg-pos n = mag-neg-pred n n (omega arith)
 
 neg-small : (y : ℤ) → mag y < 32768 → Small (negℤ y)
 neg-small (pos n) h = omega (arith, mag-neg-pos n)
@@ -62,11 +65,16 @@ mul-mag (negsuc a) (pos b) hx hy = omega (arith, mag-neg-pos (suc a * b), produc
 mul-mag (negsuc a) (negsuc b) hx hy = omega (arith, product (suc a) (suc b) (omega arith) (omega arith))
 
 -- what a 32-bit local holds of a small number is the number
-pub same32 : (z : ℤ) → mag z < 2147483648 → toZ w32 (ofZ w32 z) ≡ z
+same32 : (z : ℤ) → mag z < 2147483648 → toZ w32 (ofZ w32 z) ≡ z
 same32 z h = toZ-ofZ w32 z (fits32 z h)
 
 pub small32 : (z : ℤ) → mag z < 32768 → toZ w32 (ofZ w32 z) ≡ z
 small32 z h = same32 z (omega arith)
+
+-- f of two 16-bit numbers, computed in 32 bits: it fits, and a local holds it
+pub in32 : (f : ℤ → ℤ → ℤ) → ((x y : ℤ) → mag x < 32768 → mag y < 32768 → mag (f x y) < 2147483648) → (x y : ℤ) → mag x < 32768 → mag y < 32768
+    → SFits w32 (f (toZ w32 (ofZ w32 x)) (toZ w32 (ofZ w32 y))) × (toZ w32 (ofZ w32 (f (toZ w32 (ofZ w32 x)) (toZ w32 (ofZ w32 y)))) ≡ f x y)
+in32 f bound x y hx hy = rw (small32 x hx, small32 y hy) (fits32 (f x y) (bound x y hx hy), same32 (f x y) (bound x y hx hy))
 
 pub same16 : (z : ℤ) → mag z < 32768 → toZ w16 (ofZ w16 z) ≡ z
 same16 z h = toZ-ofZ w16 z (record { sfits = h })
@@ -110,10 +118,6 @@ pub opposite : (y : ℤ) → pos 0 -ℤ y ≡ negℤ y
 opposite y = +ℤ-idl (negℤ y)
 
 -- ---- in 16 bits
-mag-neg-pred : (n k : ℕ) → n ≤ suc k → mag (negℤ (pos n)) ≤ k
-mag-neg-pred zero k h = omega arith
-mag-neg-pred (suc n) k h = omega arith
-
 quot-small : (x y : ℤ) → mag x < 32768 → (x ≡ negsuc 32767 → y ≡ negsuc 0 → ⊥) → mag (quotZ x y) < 32768
 quot-small (pos a) (pos b) hx h = omega (arith, div-le-self a b)
 quot-small (pos a) (negsuc b) hx h = omega (arith, mag-neg-pos (a / suc b), div-le-self a (suc b))
@@ -123,23 +127,16 @@ quot-small (negsuc a) (negsuc zero) hx h =
     omega (arith, div-one (suc a), ne)
 quot-small (negsuc a) (negsuc (suc b)) hx h = omega (arith, div-lt-self {n = suc a} {k = suc (suc b)} (omega arith) (omega arith))
 
--- the least word and minus one
-signed-least : (c : ℕ) → c < 65536 → toZ w16 c ≡ negsuc 32767 → c ≡ 32768
-signed-least c k e = elim-test (ltb c 32768) refl
+-- the word of -1 - n
+signed-below : (c n : ℕ) → c < 65536 → toZ w16 c ≡ negsuc n → c ≡ 65535 - n
+signed-below c n k e = elim-test (ltb c 32768) refl
   where
-    elim-test : (t : Bool) → ltb c 32768 ≡ t → c ≡ 32768
-    elim-test true f = absurd (pos-ne-negsuc c 32767 (rw f at e))
+    elim-test : (t : Bool) → ltb c 32768 ≡ t → c ≡ 65535 - n
+    elim-test true f = absurd (pos-ne-negsuc c n (rw f at e))
     elim-test false f = omega (arith, ap mag (rw f at e), ltb-false c 32768 f)
 
-signed-minus-one : (a : ℕ) → a < 65536 → toZ w16 a ≡ negsuc 0 → a ≡ 65535
-signed-minus-one a k e = elim-test (ltb a 32768) refl
-  where
-    elim-test : (t : Bool) → ltb a 32768 ≡ t → a ≡ 65535
-    elim-test true f = absurd (pos-ne-negsuc a 0 (rw f at e))
-    elim-test false f = omega (arith, ap mag (rw f at e), ltb-false a 32768 f)
-
 pub quot-fits : (c a : ℕ) → c < 65536 → a < 65536 → mag (toZ w16 c) < 32768 → (c ≡ 32768 → a ≡ 65535 → ⊥) → mag (quotZ (toZ w16 c) (toZ w16 a)) < 32768
-quot-fits c a kc ka hx h = quot-small (toZ w16 c) (toZ w16 a) hx (λ e f. h (signed-least c kc e) (signed-minus-one a ka f))
+quot-fits c a kc ka hx h = quot-small (toZ w16 c) (toZ w16 a) hx (λ e f. h (signed-below c 32767 kc e) (signed-below a 0 ka f))
 
 pub nonzero16 : (a : ℕ) → (a ≡ 0 → ⊥) → a < 65536 → 0 < ofZ w16 (toZ w16 a)
 nonzero16 a h k = elim-test (ltb a 32768) refl
@@ -165,4 +162,4 @@ pub low-signed : (a : ℕ) → a < 32768 → toZ w16 a ≡ pos a
 low-signed a h = rw (lt-ltb a 32768 h)
 
 pub neg-fits : (a : ℕ) → a < 65536 → (a ≡ 32768 → ⊥) → mag (pos 0 -ℤ toZ w16 a) < 32768
-neg-fits a k h = rw (opposite (toZ w16 a)) (neg-mag (toZ w16 a) (small16 a k) (λ e. h (signed-least a k e)))
+neg-fits a k h = rw (opposite (toZ w16 a)) (neg-mag (toZ w16 a) (small16 a k) (λ e. h (signed-below a 32767 k e)))

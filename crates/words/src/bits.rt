@@ -1,6 +1,5 @@
 // Shifts, the rotation, and the two bytes of a word.
 ghost use mathlib.Core.Path.{_≡_};
-ghost use Prim.Native.Nat.{_%_};
 ghost use Rattle.mcode.specs.Word.{shiftLeft, shiftRight, rotateRight, byteOf, withByte};
 
 // 16 or more gives 0.

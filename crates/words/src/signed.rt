@@ -32,6 +32,7 @@ fn bits_of(z: i16) -> u16
     }
 }
 
+// The word of a number in the range.
 fn settled(z: i32) -> Value
     ensures { λ r. ⌜ r ≡ W.settle z ⌝ }
 {
@@ -44,6 +45,7 @@ fn settled(z: i32) -> Value
     Value::Is(bits_of(z as i16))
 }
 
+// The number in 32 bits, where sums, differences and products of two of them fit.
 fn wide_of(x: u16) -> i32
     ensures { λ r. ⌜ (r ≡ W.signed x) × (mag r < 32768) ⌝ }
 {
@@ -105,6 +107,7 @@ pub fn neg(a: u16) -> Value
     }
 }
 
+// A number of 0 or more is its own, and that of another is its opposite.
 pub fn abs(a: u16) -> Value
     ensures { λ r. ⌜ r ≡ W.settle (pos (natAbs (W.signed a))) ⌝ }
 {

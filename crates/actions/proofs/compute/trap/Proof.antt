@@ -7,9 +7,6 @@ use Rattle.actions.proofs.compute.trap.Tie as tie
 top-of-requires : tie.Need-top-of-requires
 top-of-requires c κs = search needs
 
-cast-halted : tie.Need-cast-halted
-cast-halted c = search needs
-
 halted-requires : tie.Need-halted-requires
 halted-requires c κs = search needs
 
@@ -18,4 +15,4 @@ unfolding performOf
 returns c = ((λ lent to store out. rw (← c .before .top-of .ensures, c .halted .ensures)), stays-as _ _ _ _ (c .halted .ensures))
 
 pub trap-spec : {M : Type 1} → statement M
-trap-spec = tie.close (tie.spec top-of-requires cast-halted halted-requires returns)
+trap-spec = tie.close (tie.spec top-of-requires halted-requires returns)

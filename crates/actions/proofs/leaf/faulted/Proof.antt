@@ -11,9 +11,6 @@ cast-halted c = search needs
 stop-code-requires : tie.Need-stop-code-requires
 stop-code-requires c κs = search needs
 
-cast-halted-2 : tie.Need-cast-halted-2
-cast-halted-2 c = search needs
-
 halted-requires : tie.Need-halted-requires
 halted-requires c κs = search needs
 
@@ -27,6 +24,5 @@ faulted-spec =
     stop-number-requires
     cast-halted
     stop-code-requires
-    cast-halted-2
     halted-requires
     returns)

@@ -2,16 +2,10 @@ use Rattle.mcode.specs.Step.{performOf, call}
 use Rattle.actions.proofs.Laws.{stays-as}
 use Rattle.control.proofs.Laws.{stays-framed}
 use native.Mathlib.Omega.{arith}
-use borrow.Author.Tests.{ne-eqb, lt-ltb, le-ltb, le-leb, lt-leb, eq-eqb}
+use borrow.Author.Tests.{lt-ltb, le-ltb}
 use borrow.Author.Needs.{needs}
 use Rattle.control.proofs.calls.call.Statement.{statement}
 use Rattle.control.proofs.calls.call.Tie as tie
-use Rattle.control.proofs.calls.call.Reads as reads
-use Rattle.control.proofs.calls.call.Lts as lts
-use Rattle.actions.proofs.leaf.trapped.Reads as trapped-reads
-use Rattle.control.proofs.calls.write_frame.Reads as write-frame-reads
-use Rattle.control.proofs.frames.framed.Reads as framed-reads
-use Rattle.control.proofs.table.entry_of.Reads as entry-of-reads
 
 cast-s : tie.Need-cast-s
 cast-s c = search needs
@@ -55,9 +49,10 @@ same-length c = search needs
 
 returns-2 : tie.Need-returns-2
 unfolding performOf call
-returns-2 c =
-    ((λ lent marks words h stack out. rw (le-ltb _ _ (c .before .before .before .before .before .before .before .if1 .left), h .image, h .tabled .modules (c .before .before .before .before .before .before .before .before .before .before .before .before .args .r .unit) (omega (arith, c .before .before .before .before .before .before .before .before .before .before .before .before .pre .0 .few, c .before .before .before .before .before .before .before .before .before .before .before .before .pre .1 .0 .loaded)), ← c .before .before .before .before .before .entry-of .ensures, c .framed .ensures, c .before .before .before .write-frame .ensures)),
-    stays-framed _ _ _ _ (c .before .before .before .before .before .before .before .before .before .before .before .before .args .r) _ (c .framed .ensures))
+returns-2 c = (
+  (λ lent marks words h stack out. rw (le-ltb _ _ (c .before .before .before .before .before .before .before .if1 .left), h .image, h .tabled .modules (c .before .before .before .before .before .before .before .before .before .before .before .before .args .r .unit) (omega (arith, c .before .before .before .before .before .before .before .before .before .before .before .before .pre .0 .few, c .before .before .before .before .before .before .before .before .before .before .before .before .pre .1 .0 .loaded)), ← c .before .before .before .before .before .entry-of .ensures, c .framed .ensures, c .before .before .before .write-frame .ensures)),
+  stays-framed _ _ _ _ (c .before .before .before .before .before .before .before .before .before .before .before .before .args .r) _ (c .framed .ensures),
+)
 
 pub call-spec : {M : Type 1} → statement M
 call-spec =

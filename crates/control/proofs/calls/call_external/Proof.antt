@@ -1,16 +1,10 @@
 use Rattle.mcode.specs.Step.{performOf, call}
 use Rattle.control.proofs.Laws.{based, anchored-in, anchored-as}
 use native.Mathlib.Omega.{arith}
-use borrow.Author.Tests.{ne-eqb, lt-ltb, le-ltb, le-leb, lt-leb, eq-eqb}
+use borrow.Author.Tests.{lt-ltb, le-ltb}
 use borrow.Author.Needs.{needs}
 use Rattle.control.proofs.calls.call_external.Statement.{statement}
 use Rattle.control.proofs.calls.call_external.Tie as tie
-use Rattle.control.proofs.calls.call_external.Reads as reads
-use Rattle.control.proofs.calls.call_external.Lts as lts
-use Rattle.actions.proofs.leaf.trapped.Reads as trapped-reads
-use Rattle.control.proofs.calls.write_frame.Reads as write-frame-reads
-use Rattle.control.proofs.frames.in_module.Reads as in-module-reads
-use Rattle.control.proofs.table.entry_of.Reads as entry-of-reads
 
 cast-s : tie.Need-cast-s
 cast-s c = search needs
@@ -34,14 +28,8 @@ entry-of-requires c κs = search needs
 cast-entry : tie.Need-cast-entry
 cast-entry c = search needs
 
-cast-write-frame : tie.Need-cast-write-frame
-cast-write-frame c = search needs
-
-add-write-frame : tie.Need-add-write-frame
-add-write-frame c = search needs
-
-write-frame-requires : tie.Need-write-frame-requires
-write-frame-requires c κs = search needs
+write-external-requires : tie.Need-write-external-requires
+write-external-requires c κs = search needs
 
 add-in-module : tie.Need-add-in-module
 add-in-module c = omega (arith, c .before .before .before .before .before .if1 .left, c .before .before .before .before .before .before .struct-known2 .given)
@@ -54,9 +42,10 @@ same-length c = search needs
 
 returns-2 : tie.Need-returns-2
 unfolding performOf call
-returns-2 c =
-    ((λ lent marks words h stack out. rw (le-ltb _ _ (c .before .before .before .before .before .before .if1 .left), h .image, h .tabled .modules (c .before .before .before .before .before .before .before .before .before .before .before .args .k) (omega (arith, c .before .before .before .before .before .before .before .before .before .before .before .pre .0 .few, c .before .before .before .before .before .before .before .before .before .before .before .pre .1 .1 .1 .0)), based (h .tabled) (c .before .before .before .before .before .before .before .before .before .before .before .pre .1 .1 .0) .own, ← c .before .before .before .before .before .entry-of .ensures, c .in-module .ensures, c .before .before .before .write-frame .ensures)),
-    anchored-in _ (c .before .before .before .before .before .before .before .before .before .before .before .args .k) _ _ _ (c .before .before .before .before .before .before .before .before .before .before .before .args .r) _ (omega (arith, c .before .before .before .before .before .before .before .before .before .before .before .pre .0 .few, c .before .before .before .before .before .before .before .before .before .before .before .pre .1 .1 .1 .0)) (c .in-module .ensures))
+returns-2 c = (
+  (λ lent marks words h stack out. rw (le-ltb _ _ (c .before .before .before .before .before .before .if1 .left), h .image, h .tabled .modules (c .before .before .before .before .before .before .before .before .before .before .before .args .k) (omega (arith, c .before .before .before .before .before .before .before .before .before .before .before .pre .0 .few, c .before .before .before .before .before .before .before .before .before .before .before .pre .1 .1 .1 .0)), based (h .tabled) (c .before .before .before .before .before .before .before .before .before .before .before .pre .1 .1 .0) .own, ← c .before .before .before .before .before .entry-of .ensures, c .in-module .ensures, c .before .before .before .write-external .ensures)),
+  anchored-in _ (c .before .before .before .before .before .before .before .before .before .before .before .args .k) _ _ _ (c .before .before .before .before .before .before .before .before .before .before .before .args .r) _ (omega (arith, c .before .before .before .before .before .before .before .before .before .before .before .pre .0 .few, c .before .before .before .before .before .before .before .before .before .before .before .pre .1 .1 .1 .0)) (c .in-module .ensures),
+)
 
 pub call-external-spec : {M : Type 1} → statement M
 call-external-spec =
@@ -69,9 +58,7 @@ call-external-spec =
     returns
     entry-of-requires
     cast-entry
-    cast-write-frame
-    add-write-frame
-    write-frame-requires
+    write-external-requires
     add-in-module
     in-module-requires
     same-length

@@ -1,11 +1,8 @@
 use lib.ListN.{length-set}
 use native.Mathlib.Omega.{arith}
-use borrow.Author.Tests.{ne-eqb, lt-ltb, le-ltb, le-leb, lt-leb, eq-eqb}
 use borrow.Author.Needs.{needs}
 use Rattle.control.proofs.calls.write_frame.Statement.{statement}
 use Rattle.control.proofs.calls.write_frame.Tie as tie
-use Rattle.control.proofs.calls.write_frame.Reads as reads
-use Rattle.control.proofs.calls.write_frame.Lts as lts
 
 mul-store : tie.Need-mul-store
 mul-store c = search needs

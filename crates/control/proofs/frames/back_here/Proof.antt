@@ -3,16 +3,9 @@ use Rattle.mcode.specs.Step.{backTo}
 use Rattle.actions.proofs.Laws.{stays-as}
 use Rattle.control.proofs.Laws.{stays-framed}
 use Rattle.control.proofs.Find.{standing-in}
-use native.Mathlib.Omega.{arith}
-use borrow.Author.Tests.{ne-eqb, lt-ltb, le-ltb, le-leb, lt-leb, eq-eqb}
 use borrow.Author.Needs.{needs}
 use Rattle.control.proofs.frames.back_here.Statement.{statement}
 use Rattle.control.proofs.frames.back_here.Tie as tie
-use Rattle.control.proofs.frames.back_here.Reads as reads
-use Rattle.control.proofs.frames.back_here.Lts as lts
-use Rattle.actions.proofs.leaf.trapped.Reads as trapped-reads
-use Rattle.control.proofs.frames.framed.Reads as framed-reads
-use Rattle.control.proofs.table.stands.Reads as stands-reads
 
 cast-k : tie.Need-cast-k
 cast-k c = search needs

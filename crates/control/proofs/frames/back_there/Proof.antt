@@ -2,17 +2,9 @@ use mathlib.Core.Path.{sym, _∙_}
 use Rattle.mcode.specs.Step.{backTo}
 use Rattle.control.proofs.Laws.{anchored-in, anchored-as}
 use Rattle.control.proofs.Find.{find-stands, find, stands-few}
-use native.Mathlib.Omega.{arith}
-use borrow.Author.Tests.{ne-eqb, lt-ltb, le-ltb, le-leb, lt-leb, eq-eqb}
 use borrow.Author.Needs.{needs}
 use Rattle.control.proofs.frames.back_there.Statement.{statement}
 use Rattle.control.proofs.frames.back_there.Tie as tie
-use Rattle.control.proofs.frames.back_there.Reads as reads
-use Rattle.control.proofs.frames.back_there.Lts as lts
-use Rattle.actions.proofs.leaf.trapped.Reads as trapped-reads
-use Rattle.control.proofs.frames.in_module.Reads as in-module-reads
-use Rattle.control.proofs.table.find_base.Reads as find-base-reads
-use Rattle.control.proofs.table.stands.Reads as stands-reads
 
 cast-i : tie.Need-cast-i
 cast-i c = search needs

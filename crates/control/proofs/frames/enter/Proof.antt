@@ -1,15 +1,10 @@
 use Rattle.mcode.specs.Step.{performOf}
 use Rattle.actions.proofs.Laws.{stays-as}
 use Rattle.control.proofs.Laws.{stays-framed}
-use native.Mathlib.Omega.{arith}
-use borrow.Author.Tests.{ne-eqb, lt-ltb, le-ltb, le-leb, lt-leb, eq-eqb}
+use borrow.Author.Tests.{lt-ltb, le-ltb}
 use borrow.Author.Needs.{needs}
 use Rattle.control.proofs.frames.enter.Statement.{statement}
 use Rattle.control.proofs.frames.enter.Tie as tie
-use Rattle.control.proofs.frames.enter.Reads as reads
-use Rattle.control.proofs.frames.enter.Lts as lts
-use Rattle.actions.proofs.leaf.trapped.Reads as trapped-reads
-use Rattle.control.proofs.frames.framed.Reads as framed-reads
 
 cast-s : tie.Need-cast-s
 cast-s c = search needs

@@ -1,17 +1,12 @@
-use mathlib.Core.Path.{_≡_, refl, sym, _∙_}
+use mathlib.Core.Path.{_≡_, refl, _∙_}
 use Prim.Native.Nat.{_≤_}
 use Rattle.mcode.specs.Step.{performOf, followed}
 use Rattle.actions.proofs.Laws.{stays-as}
 use Rattle.control.proofs.Chain.{chain-on, chain-off, chain-end}
 use native.Mathlib.Omega.{arith}
-use borrow.Author.Tests.{ne-eqb, lt-ltb, le-ltb, le-leb, lt-leb, eq-eqb}
 use borrow.Author.Needs.{needs}
 use Rattle.control.proofs.frames.follow.Statement.{statement}
 use Rattle.control.proofs.frames.follow.Tie as tie
-use Rattle.control.proofs.frames.follow.Reads as reads
-use Rattle.control.proofs.frames.follow.Lts as lts
-use Rattle.actions.proofs.compute.put_word.Reads as put-word-reads
-use Rattle.actions.proofs.leaf.trapped.Reads as trapped-reads
 
 abbrev Inv-loop : tie.InvT-loop
 Inv-loop r stack store n to a₀ left₀ a left = (a ≤ 65535) × (followed store n (r .l .0) ≡ followed store left a)

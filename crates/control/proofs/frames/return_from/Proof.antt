@@ -1,15 +1,9 @@
 use Rattle.mcode.specs.Step.{performOf, returned}
 use Rattle.control.proofs.Laws.{anchored-as, anchored-on}
-use native.Mathlib.Omega.{arith}
-use borrow.Author.Tests.{ne-eqb, lt-ltb, le-ltb, le-leb, lt-leb, eq-eqb}
+use borrow.Author.Tests.{ne-eqb, lt-ltb, le-ltb, eq-eqb}
 use borrow.Author.Needs.{needs}
 use Rattle.control.proofs.frames.return_from.Statement.{statement}
 use Rattle.control.proofs.frames.return_from.Tie as tie
-use Rattle.control.proofs.frames.return_from.Reads as reads
-use Rattle.control.proofs.frames.return_from.Lts as lts
-use Rattle.actions.proofs.leaf.trapped.Reads as trapped-reads
-use Rattle.control.proofs.frames.back_here.Reads as back-here-reads
-use Rattle.control.proofs.frames.back_there.Reads as back-there-reads
 
 trapped-requires : tie.Need-trapped-requires
 trapped-requires c κs = search needs

@@ -1,11 +1,9 @@
 use mathlib.Core.Path.{refl}
 use native.Mathlib.Omega.{arith}
-use borrow.Author.Tests.{ne-eqb, lt-ltb, le-ltb, le-leb, lt-leb, eq-eqb}
+use borrow.Author.Tests.{ne-eqb, eq-eqb}
 use borrow.Author.Needs.{needs}
 use Rattle.control.proofs.rows.after_call.Statement.{statement}
 use Rattle.control.proofs.rows.after_call.Tie as tie
-use Rattle.control.proofs.rows.after_call.Reads as reads
-use Rattle.control.proofs.rows.after_call.Lts as lts
 
 add-result : tie.Need-add-result
 add-result c = search needs

@@ -1,12 +1,7 @@
-use native.Mathlib.Omega.{arith}
-use borrow.Author.Tests.{ne-eqb, lt-ltb, le-ltb, le-leb, lt-leb, eq-eqb}
+use borrow.Author.Tests.{ne-eqb, eq-eqb}
 use borrow.Author.Needs.{needs}
 use Rattle.control.proofs.rows.callee.Statement.{statement}
 use Rattle.control.proofs.rows.callee.Tie as tie
-use Rattle.control.proofs.rows.callee.Reads as reads
-use Rattle.control.proofs.rows.callee.Lts as lts
-use Rattle.actions.proofs.leaf.operand.Reads as operand-reads
-use Rattle.actions.proofs.leaf.wide.Reads as wide-reads
 
 operand-requires : tie.Need-operand-requires
 operand-requires c κs = c .before .before .pre .1 (c .if1 .taken)

@@ -6,21 +6,10 @@ use Rattle.actions.specs.Core.{performed, instruction}
 use Rattle.control.proofs.Laws.{anchored-as, anchored-on}
 use Rattle.control.proofs.Decoded.{follow-one}
 use native.Mathlib.Omega.{arith}
-use borrow.Author.Tests.{ne-eqb, lt-ltb, le-ltb, le-leb, lt-leb, eq-eqb}
+use borrow.Author.Tests.{ne-eqb}
 use borrow.Author.Needs.{needs}
 use Rattle.control.proofs.rows.row14.Statement.{statement}
 use Rattle.control.proofs.rows.row14.Tie as tie
-use Rattle.control.proofs.rows.row14.Reads as reads
-use Rattle.control.proofs.rows.row14.Lts as lts
-use Rattle.actions.proofs.jumps.nothing.Reads as nothing-reads
-use Rattle.actions.proofs.leaf.operand.Reads as operand-reads
-use Rattle.actions.proofs.leaf.trapped.Reads as trapped-reads
-use Rattle.actions.proofs.memory.load.Reads as load-reads
-use Rattle.control.proofs.calls.call_external.Reads as call-external-reads
-use Rattle.control.proofs.calls.call_linked.Reads as call-linked-reads
-use Rattle.control.proofs.frames.enter.Reads as enter-reads
-use Rattle.control.proofs.frames.follow.Reads as follow-reads
-use Rattle.control.proofs.frames.return_from.Reads as return-from-reads
 
 trapped-requires : tie.Need-trapped-requires
 trapped-requires c κs = search needs
@@ -69,7 +58,7 @@ add-call-external c = let k = c .before .before .before .before .before .before 
 
 call-external-requires : tie.Need-call-external-requires
 unfolding takens lefts lengths
-call-external-requires c κs = 
+call-external-requires c κs =
     let k = c .before .before .before .before .before .before .before .before .pre .1 .0 (λ e. omega (arith, c .before .before .before .before .match .keys6, e)) in
     let f = k .0 .far (c .before .before .before .before .match .keys6) in
     (k .0 .entered, (k .0 .framed, (c .before .before .before .before .before .before .before .before .pre .1 .1, rw (c .before .before .operand3 .ensures .0, c .before .operand4 .ensures .0) (f .0, f .1, omega (arith, rw (c .before .before .before .before .match .keys6) at (k .0 .inside))))))
@@ -83,7 +72,7 @@ add-call-linked c = let k = c .before .before .before .before .before .before .b
 
 call-linked-requires : tie.Need-call-linked-requires
 unfolding takens lefts lengths
-call-linked-requires c κs = 
+call-linked-requires c κs =
     let k = c .before .before .before .before .before .before .before .before .pre .1 .0 (λ e. omega (arith, c .before .before .before .before .match .keys7, e)) in
     (k .0 .entered, (k .0 .framed, rw (c .before .operand5 .ensures .0) (k .0 .near (inl (c .before .before .before .before .match .keys7)), omega (arith, k .0 .inside), omega (arith, rw (c .before .before .before .before .match .keys7) at (k .0 .ready)))))
 

@@ -3,15 +3,9 @@ use Rattle.actions.specs.Core.{instruction}
 use Rattle.control.proofs.Laws.{anchored-on}
 use Rattle.control.proofs.Decoded.{decoded-call, callee-exists}
 use native.Mathlib.Omega.{arith}
-use borrow.Author.Tests.{ne-eqb, lt-ltb, le-ltb, le-leb, lt-leb, eq-eqb}
 use borrow.Author.Needs.{needs}
 use Rattle.control.proofs.rows.row15.Statement.{statement}
 use Rattle.control.proofs.rows.row15.Tie as tie
-use Rattle.control.proofs.rows.row15.Reads as reads
-use Rattle.control.proofs.rows.row15.Lts as lts
-use Rattle.control.proofs.calls.call.Reads as call-reads
-use Rattle.control.proofs.rows.after_call.Reads as after-call-reads
-use Rattle.control.proofs.rows.callee.Reads as callee-reads
 
 callee-requires : tie.Need-callee-requires
 unfolding lengths

@@ -1,13 +1,8 @@
-use Rattle.mcode.specs.Image.{procCount}
 use native.Mathlib.Omega.{arith}
-use borrow.Author.Tests.{ne-eqb, lt-ltb, le-ltb, le-leb, lt-leb, eq-eqb}
+use borrow.Author.Tests.{ne-eqb, eq-eqb}
 use borrow.Author.Needs.{needs}
 use Rattle.control.proofs.table.entry_of.Statement.{statement}
 use Rattle.control.proofs.table.entry_of.Tie as tie
-use Rattle.control.proofs.table.entry_of.Reads as reads
-use Rattle.control.proofs.table.entry_of.Lts as lts
-use Rattle.control.proofs.table.number.Reads as number-reads
-use Rattle.control.proofs.table.word_in.Reads as word-in-reads
 
 number-requires : tie.Need-number-requires
 number-requires c κs = search needs

@@ -4,14 +4,9 @@ use Prim.Native.Nat.{_≤_, _-_}
 use Rattle.control.specs.Table.{countIn, firstFrom, firstBased}
 use Rattle.control.proofs.Find.{first-here, first-on, first-none}
 use native.Mathlib.Omega.{arith}
-use borrow.Author.Tests.{ne-eqb, lt-ltb, le-ltb, le-leb, lt-leb, eq-eqb}
 use borrow.Author.Needs.{needs}
 use Rattle.control.proofs.table.find_base.Statement.{statement}
 use Rattle.control.proofs.table.find_base.Tie as tie
-use Rattle.control.proofs.table.find_base.Reads as reads
-use Rattle.control.proofs.table.find_base.Lts as lts
-use Rattle.control.proofs.table.count_of.Reads as count-of-reads
-use Rattle.control.proofs.table.number.Reads as number-reads
 
 abbrev Inv-loop : tie.InvT-loop
 Inv-loop table word count k₀ k = (k ≤ count) × (count ≡ countIn table) × (firstBased table word ≡ firstFrom table word (count - k) k)

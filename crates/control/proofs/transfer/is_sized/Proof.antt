@@ -1,13 +1,9 @@
 use mathlib.Core.Path.{refl}
 use Rattle.control.specs.Transfer.{sized}
-use native.Mathlib.Omega.{arith}
-use borrow.Author.Tests.{ne-eqb, lt-ltb, le-ltb, le-leb, lt-leb, eq-eqb}
+use borrow.Author.Tests.{lt-ltb, le-ltb, le-leb, lt-leb}
 use borrow.Author.Needs.{needs}
 use Rattle.control.proofs.transfer.is_sized.Statement.{statement}
 use Rattle.control.proofs.transfer.is_sized.Tie as tie
-use Rattle.control.proofs.transfer.is_sized.Reads as reads
-use Rattle.control.proofs.transfer.is_sized.Lts as lts
-use Rattle.control.proofs.transfer.word_at.Reads as word-at-reads
 
 add-if1 : tie.Need-add-if1
 add-if1 c = search needs

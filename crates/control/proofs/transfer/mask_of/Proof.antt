@@ -1,11 +1,7 @@
 use mathlib.Core.Path.{refl}
-use native.Mathlib.Omega.{arith}
-use borrow.Author.Tests.{ne-eqb, lt-ltb, le-ltb, le-leb, lt-leb, eq-eqb}
-use borrow.Author.Needs.{needs}
+use borrow.Author.Tests.{ne-eqb, eq-eqb}
 use Rattle.control.proofs.transfer.mask_of.Statement.{statement}
 use Rattle.control.proofs.transfer.mask_of.Tie as tie
-use Rattle.control.proofs.transfer.mask_of.Reads as reads
-use Rattle.control.proofs.transfer.mask_of.Lts as lts
 
 returns : tie.Need-returns
 returns c = rw (eq-eqb _ _ (c .if1 .taken)) refl

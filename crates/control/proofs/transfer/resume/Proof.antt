@@ -1,15 +1,9 @@
 use mathlib.Core.Path.{refl}
 use Rattle.control.proofs.Process.{sizes}
 use native.Mathlib.Omega.{arith}
-use borrow.Author.Tests.{ne-eqb, lt-ltb, le-ltb, le-leb, lt-leb, eq-eqb}
 use borrow.Author.Needs.{needs}
 use Rattle.control.proofs.transfer.resume.Statement.{statement}
 use Rattle.control.proofs.transfer.resume.Tie as tie
-use Rattle.control.proofs.transfer.resume.Reads as reads
-use Rattle.control.proofs.transfer.resume.Lts as lts
-use Rattle.control.proofs.table.number.Reads as number-reads
-use Rattle.control.proofs.transfer.mask_of.Reads as mask-of-reads
-use Rattle.control.proofs.transfer.word_at.Reads as word-at-reads
 
 add-word-at : tie.Need-add-word-at
 add-word-at c = search needs
@@ -68,8 +62,14 @@ add-word-at-4 c = search needs
 word-at-requires-5 : tie.Need-word-at-requires-5
 word-at-requires-5 c κs = let z = sizes _ _ _ (c .before .before .before .before .before .before .before .pre .1) in omega (arith, z .whole)
 
-sub-t27-2 : tie.Need-sub-t27-2
-sub-t27-2 c = let z = sizes _ _ _ (c .before .before .before .before .before .before .before .before .pre .1) in omega (arith, z .margin, c .word-at5 .ensures)
+cast-limit : tie.Need-cast-limit
+cast-limit c = search needs
+
+sub-t25 : tie.Need-sub-t25
+sub-t25 c = let z = sizes _ _ _ (c .before .before .before .before .before .before .before .before .pre .1) in omega (arith, z .margin, c .word-at5 .ensures)
+
+cast-t27 : tie.Need-cast-t27
+cast-t27 c = search needs
 
 add-word-at-5 : tie.Need-add-word-at-5
 add-word-at-5 c = search needs
@@ -106,7 +106,9 @@ resume-spec =
     sub-t27
     add-word-at-4
     word-at-requires-5
-    sub-t27-2
+    cast-limit
+    sub-t25
+    cast-t27
     add-word-at-5
     word-at-requires-6
     mask-of-requires

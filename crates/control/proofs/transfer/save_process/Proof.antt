@@ -1,14 +1,9 @@
 use lib.ListN.{length-set}
 use Rattle.mcode.specs.Step.{savedStore}
 use native.Mathlib.Omega.{arith}
-use borrow.Author.Tests.{ne-eqb, lt-ltb, le-ltb, le-leb, lt-leb, eq-eqb}
 use borrow.Author.Needs.{needs}
 use Rattle.control.proofs.transfer.save_process.Statement.{statement}
 use Rattle.control.proofs.transfer.save_process.Tie as tie
-use Rattle.control.proofs.transfer.save_process.Reads as reads
-use Rattle.control.proofs.transfer.save_process.Lts as lts
-use Rattle.control.proofs.transfer.save_words.Reads as save-words-reads
-use Rattle.control.proofs.transfer.write_record.Reads as write-record-reads
 
 cast-s : tie.Need-cast-s
 cast-s c = search needs
@@ -31,6 +26,9 @@ slice-write-store c = search needs
 cast-p : tie.Need-cast-p
 cast-p c = search needs
 
+cast-h : tie.Need-cast-h
+cast-h c = search needs
+
 cast-write-record : tie.Need-cast-write-record
 cast-write-record c = search needs
 
@@ -46,6 +44,9 @@ cast-write-record-2 c = search needs
 add-write-record-3 : tie.Need-add-write-record-3
 add-write-record-3 c = search needs
 
+cast-write-record-3 : tie.Need-cast-write-record-3
+cast-write-record-3 c = search needs
+
 write-record-requires : tie.Need-write-record-requires
 write-record-requires c κs = simp length-set (omega (arith, c .before .before .before .before .before .save-words .kept, c .before .before .before .before .before .before .before .before .before .pre))
 
@@ -60,7 +61,7 @@ same-length c = simp length-set (omega (arith, simp length-set at (c .before .be
 
 returns : tie.Need-returns
 unfolding savedStore
-returns c out = rw (← c .before .before .before .before .before .before .before .before .save-words .ensures, ← c .before .before .write-record .ensures)
+returns c = rw (← c .before .before .before .before .before .before .before .before .save-words .ensures, ← c .before .before .write-record .ensures)
 
 pub save-process-spec : {M : Type 1} → statement M
 save-process-spec =
@@ -73,11 +74,13 @@ save-process-spec =
     mul-store
     slice-write-store
     cast-p
+    cast-h
     cast-write-record
     add-write-record
     add-write-record-2
     cast-write-record-2
     add-write-record-3
+    cast-write-record-3
     write-record-requires
     mul-store-2
     slice-write-store-2

@@ -4,12 +4,9 @@ use lib.ListN.{length, length-set}
 use Rattle.mcode.specs.Step.{saved}
 use Rattle.control.proofs.Process.{saved-on, saved-all}
 use native.Mathlib.Omega.{arith}
-use borrow.Author.Tests.{ne-eqb, lt-ltb, le-ltb, le-leb, lt-leb, eq-eqb}
 use borrow.Author.Needs.{needs}
 use Rattle.control.proofs.transfer.save_words.Statement.{statement}
 use Rattle.control.proofs.transfer.save_words.Tie as tie
-use Rattle.control.proofs.transfer.save_words.Reads as reads
-use Rattle.control.proofs.transfer.save_words.Lts as lts
 
 abbrev Inv-loop : tie.InvT-loop
 Inv-loop stack store₀ d s i₀ n₀ store i n = (n ≤ d) × (i + n ≡ s + d) × (length store ≡ length store₀) × (saved stack d s store₀ ≡ saved stack n i store)

@@ -1,20 +1,10 @@
-use mathlib.Core.Path.{_≡_, refl, sym, _∙_}
 use Rattle.mcode.specs.Step.{performOf, transferred}
 use Rattle.actions.proofs.Laws.{stays-at}
 use Rattle.control.proofs.Laws.{anchored-as, anchored-on}
-use native.Mathlib.Omega.{arith}
-use borrow.Author.Tests.{ne-eqb, lt-ltb, le-ltb, le-leb, lt-leb, eq-eqb}
+use borrow.Author.Tests.{ne-eqb, lt-ltb, le-ltb, eq-eqb}
 use borrow.Author.Needs.{needs}
 use Rattle.control.proofs.transfer.transfer.Statement.{statement}
 use Rattle.control.proofs.transfer.transfer.Tie as tie
-use Rattle.control.proofs.transfer.transfer.Reads as reads
-use Rattle.control.proofs.transfer.transfer.Lts as lts
-use Rattle.actions.proofs.leaf.second_of.Reads as second-of-reads
-use Rattle.actions.proofs.leaf.take_two.Reads as take-two-reads
-use Rattle.actions.proofs.leaf.top_of.Reads as top-of-reads
-use Rattle.actions.proofs.leaf.trapped.Reads as trapped-reads
-use Rattle.control.proofs.transfer.switch.Reads as switch-reads
-use Rattle.control.proofs.transfer.word_at.Reads as word-at-reads
 
 top-of-requires : tie.Need-top-of-requires
 top-of-requires c κs = search needs

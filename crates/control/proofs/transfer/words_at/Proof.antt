@@ -4,12 +4,9 @@ use lib.ListN.{replicate}
 use Rattle.mcode.specs.Step.{restored}
 use Rattle.control.proofs.Process.{restored-on, restored-all}
 use native.Mathlib.Omega.{arith}
-use borrow.Author.Tests.{ne-eqb, lt-ltb, le-ltb, le-leb, lt-leb, eq-eqb}
 use borrow.Author.Needs.{needs}
 use Rattle.control.proofs.transfer.words_at.Statement.{statement}
 use Rattle.control.proofs.transfer.words_at.Tie as tie
-use Rattle.control.proofs.transfer.words_at.Reads as reads
-use Rattle.control.proofs.transfer.words_at.Lts as lts
 
 abbrev Inv-loop : tie.InvT-loop
 Inv-loop store a k words₀ i₀ n₀ words i n = (n ≤ k) × (i + n ≡ a + k) × (restored store k a (replicate 16 0) ≡ restored store n i words)

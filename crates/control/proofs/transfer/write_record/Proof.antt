@@ -1,12 +1,9 @@
 use lib.ListN.{length-set}
 use Rattle.control.proofs.Process.{written-six}
 use native.Mathlib.Omega.{arith}
-use borrow.Author.Tests.{ne-eqb, lt-ltb, le-ltb, le-leb, lt-leb, eq-eqb}
 use borrow.Author.Needs.{needs}
 use Rattle.control.proofs.transfer.write_record.Statement.{statement}
 use Rattle.control.proofs.transfer.write_record.Tie as tie
-use Rattle.control.proofs.transfer.write_record.Reads as reads
-use Rattle.control.proofs.transfer.write_record.Lts as lts
 
 mul-store : tie.Need-mul-store
 mul-store c = search needs

@@ -1,5 +1,5 @@
 use lib.IntN.{_+ℤ_}
-use Rattle.words.proofs.Numbers.{fits32, same32, small32, add-mag}
+use Rattle.words.proofs.Numbers.{in32, add-mag}
 use borrow.Author.Needs.{needs}
 use Rattle.words.proofs.signed.add.Statement.{statement}
 use Rattle.words.proofs.signed.add.Tie as tie
@@ -11,19 +11,16 @@ wide-of-requires-2 : tie.Need-wide-of-requires-2
 wide-of-requires-2 c κs = search needs
 
 add-settled : tie.Need-add-settled
-add-settled c =
-    let x = c .before .wide-of .result in
-    let y = c .wide-of2 .result in
-    rw (small32 x (c .before .wide-of .ensures .1), small32 y (c .wide-of2 .ensures .1)) (fits32 _ (add-mag x y (c .before .wide-of .ensures .1) (c .wide-of2 .ensures .1)))
+add-settled c = in32 _+ℤ_ add-mag (c .before .wide-of .result) (c .wide-of2 .result) (c .before .wide-of .ensures .1) (c .wide-of2 .ensures .1) .0
 
 settled-requires : tie.Need-settled-requires
 settled-requires c κs = search needs
 
 returns : tie.Need-returns
 returns c =
-    let x = c .before .before .wide-of .result in
-    let y = c .before .wide-of2 .result in
-    rw (c .settled .ensures, small32 x (c .before .before .wide-of .ensures .1), small32 y (c .before .wide-of2 .ensures .1), same32 (x +ℤ y) (add-mag x y (c .before .before .wide-of .ensures .1) (c .before .wide-of2 .ensures .1)), c .before .before .wide-of .ensures .0, c .before .wide-of2 .ensures .0)
+    let x = c .before .before .wide-of .ensures in
+    let y = c .before .wide-of2 .ensures in
+    rw (c .settled .ensures, in32 _+ℤ_ add-mag (c .before .before .wide-of .result) (c .before .wide-of2 .result) (x .1) (y .1) .1, x .0, y .0)
 
 pub add-spec : {M : Type 1} → statement M
 add-spec =

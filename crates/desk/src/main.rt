@@ -5,7 +5,7 @@ use mcode::{Ending, Machine, Stop};
 
 fn put_number(label: &[u8], n: u64) {
     io::write_all(1, label);
-    io::number::print_decimal(1, n);
+    io::print_decimal(1, n);
 }
 
 fn put_machine(machine: Machine) {

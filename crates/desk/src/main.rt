@@ -1,7 +1,9 @@
 // The desk program: reads an image from standard input and prints "A whole reading" of it: W = 4,096, inputs 0, outputs first 0,
 // n = 1,000. A refusal prints one line: `refused` and its number.
 use engine::reading::reading;
-use mcode::{Ending, Machine, Stop};
+use mcode::Ending;
+use mcode::Machine;
+use mcode::Stop;
 
 fn put_number(label: &[u8], n: u64) {
     io::write_all(1, label);
@@ -39,7 +41,14 @@ fn main() {
     let mut outputs = [0u16; 16];
     let inputs = [0u16; 16];
     let n = io::read_full(0, &mut image);
-    let ran = reading(&image[..n], &mut map, &mut store, &mut outputs, &inputs, 1000);
+    let ran = reading(
+        &image[..n],
+        &mut map,
+        &mut store,
+        &mut outputs,
+        &inputs,
+        1000,
+    );
     let ending = ran.ending;
     match ending {
         Ending::Refused(number) => {

@@ -4,5 +4,6 @@ pub mod Begin
 pub mod Fill
 pub mod Judged
 pub mod Numbers
+pub mod Closed
 pub mod Turns
 pub mod Whole

@@ -36,15 +36,27 @@ module _ (m : Module) (k : ℕ) (t : List ℕ) where
 
   pub put-same : k < 32 → length t ≡ 193 → moduleIn put k ≡ m
   put-same h l =
-      rw (at 0 (6 * k + 1) (omega arith) (omega arith), at 1 (6 * k + 2) (omega arith) (omega arith), at 2 (6 * k + 3) (omega arith) (omega arith),
-      at 3 (6 * k + 4) (omega arith) (omega arith), at 4 (6 * k + 5) (omega arith) (omega arith), at 5 (6 * k + 6) (omega arith) (omega arith))
+      rw (
+        at 0 (6 * k + 1) (omega arith) (omega arith),
+        at 1 (6 * k + 2) (omega arith) (omega arith),
+        at 2 (6 * k + 3) (omega arith) (omega arith),
+        at 3 (6 * k + 4) (omega arith) (omega arith),
+        at 4 (6 * k + 5) (omega arith) (omega arith),
+        at 5 (6 * k + 6) (omega arith) (omega arith),
+      )
     where
       at : (i n : ℕ) → n ≡ 6 * k + 1 + i → i < 6 → getD put n 0 ≡ getD (numbersOf m) i 0
       at i n e j = written-in (numbersOf m) (6 * k + 1) t i n e j (omega arith)
 
   pub put-other : (j : ℕ) → (j ≡ k → ⊥) → moduleIn put j ≡ moduleIn t j
-  put-other j d = rw (at (6 * j + 1) (side 1 (omega arith) (omega arith)), at (6 * j + 2) (side 2 (omega arith) (omega arith)), at (6 * j + 3) (side 3 (omega arith) (omega arith)),
-      at (6 * j + 4) (side 4 (omega arith) (omega arith)), at (6 * j + 5) (side 5 (omega arith) (omega arith)), at (6 * j + 6) (side 6 (omega arith) (omega arith)))
+  put-other j d = rw (
+    at (6 * j + 1) (side 1 (omega arith) (omega arith)),
+    at (6 * j + 2) (side 2 (omega arith) (omega arith)),
+    at (6 * j + 3) (side 3 (omega arith) (omega arith)),
+    at (6 * j + 4) (side 4 (omega arith) (omega arith)),
+    at (6 * j + 5) (side 5 (omega arith) (omega arith)),
+    at (6 * j + 6) (side 6 (omega arith) (omega arith)),
+  )
     where
       at : (n : ℕ) → (n < 6 * k + 1) ⊎ (6 * k + 1 + 6 ≤ n) → getD put n 0 ≡ getD t n 0
       at n s = written-out (numbersOf m) (6 * k + 1) t n s
@@ -71,8 +83,14 @@ holds-none program n e = record {
   long = length-set (replicate 193 0) 0 n;
   count = getD-set-same (replicate 193 0) 0 n 0 (omega arith) ∙ e;
   below = λ j h. absurd (not-suc-le-zero h);
-  above = λ j h l. rw (zero-at (6 * j + 1) (omega arith) (omega arith), zero-at (6 * j + 2) (omega arith) (omega arith), zero-at (6 * j + 3) (omega arith) (omega arith),
-      zero-at (6 * j + 4) (omega arith) (omega arith), zero-at (6 * j + 5) (omega arith) (omega arith), zero-at (6 * j + 6) (omega arith) (omega arith));
+  above = λ j h l. rw (
+    zero-at (6 * j + 1) (omega arith) (omega arith),
+    zero-at (6 * j + 2) (omega arith) (omega arith),
+    zero-at (6 * j + 3) (omega arith) (omega arith),
+    zero-at (6 * j + 4) (omega arith) (omega arith),
+    zero-at (6 * j + 5) (omega arith) (omega arith),
+    zero-at (6 * j + 6) (omega arith) (omega arith),
+  );
 }
   where
     zero-at : (i : ℕ) → 1 ≤ i → i < 193 → getD (set (replicate 193 0) 0 n) i 0 ≡ 0

@@ -20,7 +20,7 @@ started image store t =
     pick t (record { number = startRefusal image (length store); machine = zeroMachine; store = store })
     (record { number = 0; machine = startMachine image (parse image .program) (length store); store = startStore (parse image .program) (length store) })
 
-start-leaves : (image store : List ℕ) → 1 ≤ startOf image store .number → startOf image store .store ≡ store
+pub start-leaves : (image store : List ℕ) → 1 ≤ startOf image store .number → startOf image store .store ≡ store
 unfolding startOf
 start-leaves image store = go (leb 1 (startRefusal image (length store)))
   where

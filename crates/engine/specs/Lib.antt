@@ -5,3 +5,4 @@ pub mod Stops
 pub mod Judged
 pub mod Ran
 pub mod Whole
+pub mod Closed

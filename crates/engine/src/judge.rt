@@ -1,7 +1,8 @@
 // Run's refusals, in their order: 1 to 6, 7, 12, 9, 10, 11.
 use crate::start::store_fits;
 use crate::table::table_of;
-use mcode::{Machine, Registers};
+use mcode::Machine;
+use mcode::Registers;
 ghost use mathlib.Core.Path.{_≡_};
 ghost use mathlib.Core.List.{List};
 ghost use Prim.Native.Nat.{_+_, _≤_, _<_};
@@ -70,11 +71,21 @@ fn is_machine(machine: Machine, table: &[u16; 193], map: &[u8], w: usize) -> boo
 fn refused(number: u16) -> Judged
     ensures { λ r. ⌜ r .refusal ≡ number ⌝ }
 {
-    Judged { refusal: number, table: [0u16; 193] }
+    Judged {
+        refusal: number,
+        table: [0u16; 193],
+    }
 }
 
 // Judges what run is handed, with a store of w words, `outs` outputs and `ins` inputs.
-pub fn judge(machine: Machine, image: &[u8], map: &[u8], w: usize, outs: usize, ins: usize) -> Judged
+pub fn judge(
+    machine: Machine,
+    image: &[u8],
+    map: &[u8],
+    w: usize,
+    outs: usize,
+    ins: usize,
+) -> Judged
     ensures { λ r. ⌜ Verdict (now (image .entry)) (now (map .entry)) machine w outs ins (r .refusal) (r .table) ⌝ }
 {
     let parsed = image::read_image(image);

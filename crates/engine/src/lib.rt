@@ -3,6 +3,7 @@ pub mod judge;
 pub mod load;
 pub mod reading;
 pub mod run;
+pub mod session;
 pub mod start;
 pub mod stops;
 pub mod table;

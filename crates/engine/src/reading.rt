@@ -1,24 +1,34 @@
 // A whole reading: load, then start, then one run.
 use crate::load::load;
-use crate::run::{run, Ran};
-use crate::start::{start, zero_machine};
+use crate::run::Ran;
+use crate::run::run;
+use crate::start::start;
+use crate::start::zero_machine;
 use mcode::Ending;
 ghost use mathlib.Core.Path.{_≡_};
-ghost use lib.ListN.{length};
-ghost use Rattle.mcode.specs.Machine.{state, zeroMachine};
-ghost use Rattle.mcode.specs.Run.{refused};
-ghost use Rattle.engine.specs.Ran.{answered};
+ghost use Rattle.engine.specs.Ran.{answered, refusedAs};
 ghost use Rattle.engine.specs.Whole.{Reads};
 
 // A refusal, with a machine of zeros.
-fn refused_with(number: u16) -> Ran
-    ensures { λ r. ⌜ (r .machine ≡ zeroMachine) × (r .count ≡ 0) × (r .ending ≡ Ending.Refused number) ⌝ }
+pub fn refused_with(number: u16) -> Ran
+    ensures { λ r. ⌜ r ≡ refusedAs number ⌝ }
 {
     let machine = zero_machine();
-    Ran { ending: Ending::Refused(number), count: 0, machine }
+    Ran {
+        ending: Ending::Refused(number),
+        count: 0,
+        machine,
+    }
 }
 
-pub fn reading(image: &[u8], map: &mut [u8], store: &mut [u16], outputs: &mut [u16], inputs: &[u16], n: u32) -> Ran
+pub fn reading(
+    image: &[u8],
+    map: &mut [u8],
+    store: &mut [u16],
+    outputs: &mut [u16],
+    inputs: &[u16],
+    n: u32,
+) -> Ran
     ensures { λ r. ⌜ Reads (now (image .entry)) (now (map .entry)) (now (store .entry)) (now (outputs .entry)) (now (inputs .entry)) n (answered r (now (store .exit)) (now (outputs .exit))) (now (map .exit)) ⌝ }
 {
     let number = load(image, map);

@@ -1,9 +1,12 @@
 // Run: the refusals, then one step after another until a stop is found.
 use crate::judge::judge;
 use crate::stops::stop_of;
-use execute::steps::{core_of, machine_of};
+use execute::steps::core_of;
+use execute::steps::machine_of;
 use execute::turn;
-use mcode::{Ending, Machine, Stop};
+use mcode::Ending;
+use mcode::Machine;
+use mcode::Stop;
 ghost use mathlib.Core.Path.{_≡_};
 ghost use Prim.Native.Nat.{_+_, _≤_, _<_};
 ghost use lib.ListN.{length};
@@ -28,7 +31,16 @@ struct Stopping {
 }
 
 // One step after another, in the machine's own registers, until a stop is found.
-fn steps(machine: Machine, image: &[u8], table: &[u16; 193], map: &[u8], store: &mut [u16], inputs: &[u16], outputs: &mut [u16], n: u32) -> Stopping
+fn steps(
+    machine: Machine,
+    image: &[u8],
+    table: &[u16; 193],
+    map: &[u8],
+    store: &mut [u16],
+    inputs: &[u16],
+    outputs: &mut [u16],
+    n: u32,
+) -> Stopping
     requires { ⌜ Passed (now image) (now map) machine (length (now store)) (length (now outputs)) (length (now inputs)) (now table) ⌝ }
     ensures { λ q. ⌜ stoppedAt q (now (store .exit)) (now (outputs .exit)) ≡ runN (stepOf (lentTo (now (image .entry)) (now (map .entry)) (now (inputs .entry)))) n (state machine (now (store .entry)) (now (outputs .entry))) ⌝ }
 {
@@ -39,7 +51,17 @@ fn steps(machine: Machine, image: &[u8], table: &[u16; 193], map: &[u8], store: 
     let mut code = 0u16;
     let number = 'steps: loop {
         left = left - 1;
-        let s = turn(left, r, image, table, map, &mut stack, store, inputs, outputs);
+        let s = turn(
+            left,
+            r,
+            image,
+            table,
+            map,
+            &mut stack,
+            store,
+            inputs,
+            outputs,
+        );
         let next = s.core;
         r = next;
         if s.stop != 0 {
@@ -50,20 +72,47 @@ fn steps(machine: Machine, image: &[u8], table: &[u16; 193], map: &[u8], store: 
     let stop = stop_of(number, code);
     let count = (n as u64 - left) as u32;
     let after = machine_of(r, stack);
-    Stopping { stop, count, machine: after }
+    Stopping {
+        stop,
+        count,
+        machine: after,
+    }
 }
 
-pub fn run(machine: Machine, image: &[u8], map: &[u8], store: &mut [u16], outputs: &mut [u16], inputs: &[u16], n: u32) -> Ran
+pub fn run(
+    machine: Machine,
+    image: &[u8],
+    map: &[u8],
+    store: &mut [u16],
+    outputs: &mut [u16],
+    inputs: &[u16],
+    n: u32,
+) -> Ran
     ensures { λ r. ⌜ answered r (now (store .exit)) (now (outputs .exit)) ≡ runOf (now (image .entry)) (now (map .entry)) (now (inputs .entry)) n (state machine (now (store .entry)) (now (outputs .entry))) ⌝ }
 {
-    let judged = judge(machine, image, map, store.len(), outputs.len(), inputs.len());
+    let judged = judge(
+        machine,
+        image,
+        map,
+        store.len(),
+        outputs.len(),
+        inputs.len(),
+    );
     let refusal = judged.refusal;
     if 1 <= refusal {
-        return Ran { ending: Ending::Refused(refusal), count: 0, machine };
+        return Ran {
+            ending: Ending::Refused(refusal),
+            count: 0,
+            machine,
+        };
     }
     let table = judged.table;
     let s = steps(machine, image, &table, map, store, inputs, outputs, n);
     let stop = s.stop;
     let after = s.machine;
-    Ran { ending: Ending::Stopped(stop), count: s.count, machine: after }
+    Ran {
+        ending: Ending::Stopped(stop),
+        count: s.count,
+        machine: after,
+    }
 }

@@ -1,5 +1,9 @@
 // Start: a cleared store and a machine at procedure 0 of module 0, or refusal 1 to 6 or 9.
-use mcode::{Address, Machine, Position, Program, Registers};
+use mcode::Address;
+use mcode::Machine;
+use mcode::Position;
+use mcode::Program;
+use mcode::Registers;
 ghost use mathlib.Core.Path.{_≡_};
 ghost use mathlib.Core.List.{List, [], _∷_};
 ghost use Prim.Native.Nat.{_+_, _≤_, _<_};
@@ -24,8 +28,20 @@ pub fn zero_machine() -> Machine
 {
     let pc = Position(0);
     let none = Address(0);
-    let registers = Registers { unit: 0, pc, l: none, s: none, h: none, p: none, mask: 0, depth: 0 };
-    Machine { registers, stack: [0u16; 16] }
+    let registers = Registers {
+        unit: 0,
+        pc,
+        l: none,
+        s: none,
+        h: none,
+        p: none,
+        mask: 0,
+        depth: 0,
+    };
+    Machine {
+        registers,
+        stack: [0u16; 16],
+    }
 }
 
 // Refusal 9: a store of w words holds the data up to Z = end, and 36 words more.
@@ -85,8 +101,20 @@ fn machine_at(entry: u16, end: u16, w: u16) -> Machine
     let s = Address(end + 12);
     let h = Address(w - Machine::MARGIN as u16);
     let p = Address(end);
-    let registers = Registers { unit: 0, pc, l, s, h, p, mask: 0, depth: 0 };
-    Machine { registers, stack: [0u16; 16] }
+    let registers = Registers {
+        unit: 0,
+        pc,
+        l,
+        s,
+        h,
+        p,
+        mask: 0,
+        depth: 0,
+    };
+    Machine {
+        registers,
+        stack: [0u16; 16],
+    }
 }
 
 // Clears the store, writes what it holds at first, and makes the machine.
@@ -111,12 +139,18 @@ pub fn start(image: &[u8], store: &mut [u16]) -> Started
     let parsed = image::read_image(image);
     let refusal = parsed.refusal;
     if 1 <= refusal {
-        return Started { number: refusal, machine: zero_machine() };
+        return Started {
+            number: refusal,
+            machine: zero_machine(),
+        };
     }
     let program = parsed.program;
     let end = program.end;
     if !store_fits(end, store.len()) {
-        return Started { number: 9, machine: zero_machine() };
+        return Started {
+            number: 9,
+            machine: zero_machine(),
+        };
     }
     let machine = begin(image, program, store);
     Started { number: 0, machine }

@@ -1,5 +1,6 @@
 // The numbers of a program as one flat array: the count of modules, then six numbers a module. A step is lent it.
-use mcode::{Module, Program};
+use mcode::Module;
+use mcode::Program;
 ghost use mathlib.Core.Path.{_≡_};
 ghost use mathlib.Core.List.{List, [], _∷_};
 ghost use Prim.Native.Nat.{_+_, _*_, _≤_, _<_};

@@ -40,9 +40,10 @@ loop-less c = search needs
 loop-again : tie.Need-loop-again Inv-loop μ-loop
 loop-again c =
     let a = c .before .before .before .args in
-    let l = c .before .before .loop in
-    (omega (arith, l .inv .0),
-    λ k d h. ⊎-elim (λ (e : k ≡ l .i). ap (λ (j : ℕ). getD (a .t1) j 0) e ∙ c .if1 .left) (λ (h′ : k < l .i). l .inv .1 k d h′) (eq-or-lt-of-le (let le : k ≤ l .i = omega (arith, h) in le)))
+    let l = c .before .before .loop in (
+      omega (arith, l .inv .0),
+      λ k d h. ⊎-elim (λ (e : k ≡ l .i). ap (λ (j : ℕ). getD (a .t1) j 0) e ∙ c .if1 .left) (λ (h′ : k < l .i). l .inv .1 k d h′) (eq-or-lt-of-le (let le : k ≤ l .i = omega (arith, h) in le)),
+    )
 
 returns-2 : tie.Need-returns-2 Inv-loop μ-loop
 returns-2 c = sym (zeros-yes (c .before .before .args .t1) _ (λ k d l. c .before .loop .inv .1 k d (omega (arith, l))))

@@ -22,7 +22,7 @@ same-length : tie.Need-same-length
 same-length c = search needs
 
 returns : tie.Need-returns
-returns c = rw (c .refused-with .ensures .0, c .refused-with .ensures .1, c .refused-with .ensures .2) (load-refuses _ _ _ _ _ _ _ _ (c .before .before .before .before .load .ensures) (c .before .if1 .taken))
+returns c = rw (c .refused-with .ensures) (load-refuses _ _ _ _ _ _ _ _ (c .before .before .before .before .load .ensures) (c .before .if1 .taken))
 
 start-requires : tie.Need-start-requires
 start-requires c κs = search needs
@@ -37,7 +37,7 @@ same-length-3 : tie.Need-same-length-3
 same-length-3 c = search needs
 
 returns-2 : tie.Need-returns-2
-returns-2 c = rw (c .refused-with2 .ensures .0, c .refused-with2 .ensures .1, c .refused-with2 .ensures .2) (start-refuses _ _ _ _ _ _ _ _ (c .before .before .before .before .before .before .before .before .before .load .ensures) (c .before .before .before .before .before .before .if1 .left) _ (c .before .before .before .before .start .ensures) (c .before .if2 .taken))
+returns-2 c = rw (c .refused-with2 .ensures) (start-refuses _ _ _ _ _ _ _ _ (c .before .before .before .before .before .before .before .before .before .load .ensures) (c .before .before .before .before .before .before .if1 .left) _ (c .before .before .before .before .start .ensures) (c .before .if2 .taken))
 
 run-requires : tie.Need-run-requires
 run-requires c κs = search needs

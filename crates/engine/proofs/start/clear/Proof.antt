@@ -35,11 +35,13 @@ loop-less c = simp length-set (omega arith)
 loop-again : tie.Need-loop-again Inv-loop μ-loop
 loop-again c =
     let l = c .before .loop in
-    let i = l .i in
-    (simp length-set (omega arith), length-set (l .store) i 0 ∙ l .inv .1,
-    below-more (λ (k : ℕ). getD (set (l .store) i 0) k 0 ≡ 0) i
-    (λ k h. getD-set-other (l .store) i k 0 0 (omega arith) ∙ l .inv .2 k h)
-    (getD-set-same (l .store) i 0 0 (c .loop-test .taken)))
+    let i = l .i in (
+      simp length-set (omega arith),
+      length-set (l .store) i 0 ∙ l .inv .1,
+      below-more (λ (k : ℕ). getD (set (l .store) i 0) k 0 ≡ 0) i
+          (λ k h. getD-set-other (l .store) i k 0 0 (omega arith) ∙ l .inv .2 k h)
+          (getD-set-same (l .store) i 0 0 (c .loop-test .taken)),
+    )
 
 same-length : tie.Need-same-length Inv-loop μ-loop
 same-length c = c .before .loop .inv .1

@@ -53,12 +53,15 @@ loop-again c =
     let a = c .before .before .before .before .args in
     let l = c .before .before .before .loop in
     let R = c .before .before .before .before .pre in
-    let h : l .k < length (take (a .t1 .count) (basesOf (a .t1))) = omega (arith, bases-long (a .t1) (length (a .store .now)) R) in
-    (omega arith, refl, simp length-set (l .inv .2),
-    l .inv .3
-    ∙ next-written (take (a .t1 .count) (basesOf (a .t1))) 32 (l .k) (l .store) h
-    ∙ ap (λ (v : ℕ). written (drop (l .k + 1) (take (a .t1 .count) (basesOf (a .t1)))) (32 + (l .k + 1)) (set (l .store) (32 + l .k) v))
-    (base-at (a .t1) (length (a .store .now)) R (l .k) (omega arith)))
+    let h : l .k < length (take (a .t1 .count) (basesOf (a .t1))) = omega (arith, bases-long (a .t1) (length (a .store .now)) R) in (
+      omega arith,
+      refl,
+      simp length-set (l .inv .2),
+      l .inv .3
+          ∙ next-written (take (a .t1 .count) (basesOf (a .t1))) 32 (l .k) (l .store) h
+          ∙ ap (λ (v : ℕ). written (drop (l .k + 1) (take (a .t1 .count) (basesOf (a .t1)))) (32 + (l .k + 1)) (set (l .store) (32 + l .k) v))
+          (base-at (a .t1) (length (a .store .now)) R (l .k) (omega arith)),
+    )
 
 same-length : tie.Need-same-length Inv-loop μ-loop
 same-length c = c .before .loop .inv .2

@@ -55,7 +55,6 @@ pub stop-of-spec : {M : Type 1} → statement M
 stop-of-spec =
     tie.close
     (tie.spec
-
     returns
     returns-2
     returns-3

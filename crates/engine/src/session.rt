@@ -1,0 +1,60 @@
+// Load, start and two runs, with what demand 3 says of them: the chain from the code to the theorem over the whole list of runs.
+use crate::load::load;
+use crate::reading::refused_with;
+use crate::run::Ran;
+use crate::run::run;
+use crate::start::start;
+ghost use mathlib.Core.Path.{_≡_};
+ghost use Rattle.engine.specs.Ran.{refusedAs};
+ghost use Rattle.engine.specs.Closed.{Closes};
+
+// The number of load's or start's refusal, or 0, and the answers of the two runs.
+pub struct TwoRuns {
+    pub number: u16,
+    pub first: Ran,
+    pub second: Ran,
+}
+
+fn no_session(number: u16) -> TwoRuns
+    ensures { λ r. ⌜ (r .number ≡ number) × (r .first ≡ refusedAs number) × (r .second ≡ refusedAs number) ⌝ }
+{
+    let first = refused_with(number);
+    let second = refused_with(number);
+    TwoRuns {
+        number,
+        first,
+        second,
+    }
+}
+
+pub fn two_runs(
+    image: &[u8],
+    map: &mut [u8],
+    store: &mut [u16],
+    outputs: &mut [u16],
+    inputs: &[u16],
+    n: u32,
+    others: &[u16],
+    m: u32,
+) -> TwoRuns
+    ensures { λ r. ⌜ Closes (now (image .entry)) (now (map .entry)) (now (store .entry)) (now (outputs .entry)) (record { budget = n; inputs = now (inputs .entry) }) (record { budget = m; inputs = now (others .entry) }) r (now (map .exit)) (now (store .exit)) (now (outputs .exit)) ⌝ }
+{
+    let number = load(image, map);
+    if 1 <= number {
+        return no_session(number);
+    }
+    let started = start(image, store);
+    let refusal = started.number;
+    if 1 <= refusal {
+        return no_session(refusal);
+    }
+    let machine = started.machine;
+    let first = run(machine, image, map, store, outputs, inputs, n);
+    let between = first.machine;
+    let second = run(between, image, map, store, outputs, others, m);
+    TwoRuns {
+        number: 0,
+        first,
+        second,
+    }
+}

@@ -1,11 +1,19 @@
 -- What a step's answer says of the definition's outcome: no stop, and it went on to the state that is held; a stop, and all is as before.
 -- Assumes nothing.
 use mathlib.Core.Path.{_≡_, refl, sym, ap, _∙_}
+use mathlib.Core.Logic.{_⊎_, inl, inr}
+use mathlib.Core.Bool.{Bool, true, false}
+use Prim.Native.Nat.{ℕ}
+use lib.Dec.{eqb}
 use native.Mathlib.Omega.{arith}
+use borrow.Author.Tests.{eqb-true, eqb-false}
+use Rattle.mcode.specs.Word.{pick}
 use Rattle.mcode.specs.Machine.{State, Outcome, go, halt, stopNumber, stopCode}
 use Rattle.mcode.specs.declared.Stop.{Stop}
 use Rattle.mcode.specs.declared.Stop.the-variants.{Spent, Ended, BadAddress, StackLimit, ReturnMark, BadProcess, ZeroDivisor, SignedRange, CheckFailed, BadChannel, Program as OfProgram}
+use Rattle.mcode.specs.Step.{Lent, stepOf}
 use Rattle.actions.specs.Core.{Left, leftBy}
+use Rattle.execute.specs.Stepping.{turned}
 
 a-stop : (k : Stop) → stopNumber k ≡ 0 → ⊥
 a-stop Spent z = omega (arith, z)
@@ -34,3 +42,21 @@ pub record Stopped (x : State) (o : Outcome) (l : Left) : Type 0 where
 pub stopped : (x : State) (o : Outcome) (l : Left) → l ≡ leftBy x o → (l .stop ≡ 0 → ⊥) → Stopped x o l
 stopped x (go y) l e n = absurd (n (ap (λ (a : Left). a .stop) e))
 stopped x (halt k) l e n = record { why = k; halts = refl; number = ap (λ (a : Left). a .stop) e; code = ap (λ (a : Left). a .code) e; same = ap (λ (a : Left). a .state) e }
+
+-- ---- the same of a turn with a budget of n steps
+
+pub turn-goes : (lent : Lent) (n : ℕ) (x : State) (l : Left) → l ≡ turned lent n x → l .stop ≡ 0 → (n ≡ 0 → ⊥) × (stepOf lent x ≡ go (l .state))
+turn-goes lent n x l e z = by (eqb n 0) refl e
+  where
+    by : (spent : Bool) → eqb n 0 ≡ spent → l ≡ pick spent (record { stop = 30; code = 0; state = x }) (leftBy x (stepOf lent x)) → (n ≡ 0 → ⊥) × (stepOf lent x ≡ go (l .state))
+    by true t e = absurd (let c : ⊥ = omega (arith, ap (λ (a : Left). a .stop) e, z) in c)
+    by false t e = (eqb-false n 0 t, went-on x (stepOf lent x) l e z)
+
+pub turn-stops : (lent : Lent) (n : ℕ) (x : State) (l : Left) → l ≡ turned lent n x → (l .stop ≡ 0 → ⊥)
+    → ((n ≡ 0) × (l ≡ record { stop = 30; code = 0; state = x })) ⊎ ((n ≡ 0 → ⊥) × Stopped x (stepOf lent x) l)
+turn-stops lent n x l e s = by (eqb n 0) refl e
+  where
+    by : (spent : Bool) → eqb n 0 ≡ spent → l ≡ pick spent (record { stop = 30; code = 0; state = x }) (leftBy x (stepOf lent x))
+        → ((n ≡ 0) × (l ≡ record { stop = 30; code = 0; state = x })) ⊎ ((n ≡ 0 → ⊥) × Stopped x (stepOf lent x) l)
+    by true t e = inl (eqb-true n 0 t, e)
+    by false t e = inr (eqb-false n 0 t, stopped x (stepOf lent x) l e s)

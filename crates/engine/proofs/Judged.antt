@@ -19,7 +19,7 @@ use Rattle.mcode.specs.declared.Machine.{Machine}
 use Rattle.mcode.specs.declared.Parsed.{Parsed}
 use Rattle.mcode.specs.declared.Program.{Program}
 use Rattle.actions.specs.Table.{moduleIn, Tabled}
-use Rattle.control.specs.Table.{countIn, standsIn, Mapped}
+use Rattle.control.specs.Table.{countIn, standsIn}
 use Rattle.mcode.proofs.Tests.{all-at, at-all, first-or, second-or}
 use Rattle.execute.specs.Stepping.{Prepared}
 use Rattle.engine.specs.Numbers.{Words, Narrow}
@@ -157,16 +157,6 @@ narrow-so {image} {program} w T f =
       words = λ k j. let s = T .laid .sound k j in record { code = omega (arith, s .within, T .brief); base = omega (arith, T .laid .below k j, l, h); table = s .near };
       blank = T .blank;
     }
-
--- the marks of each module lie in the map
-pub mapped-so : {image : List ℕ} {program : Program} (table map : List ℕ) → Told image program → Tabled table program → length image ≤ length map → Mapped table map
-mapped-so {image} {program} table map T N l = record {
-  few = omega (arith, N .count, N .few);
-  marks = λ k j.
-      let h : k < program .count = omega (arith, j, N .count) in
-      let s = T .laid .sound k h in
-      omega (arith, rw (N .modules k (omega (arith, h, N .few))) at (s .within), l);
-}
 
 pub one-short : (a b : Bool) → b ≡ false → and a b ≡ false
 one-short a b e = rw e (and-false a)

@@ -1,17 +1,16 @@
 -- A turn of the stepping loop, and what it says of the run: a turn that goes on leaves the rest to run, one that stops ends it.
 -- Assumes nothing.
 use mathlib.Core.Path.{_≡_, refl, sym, ap, _∙_, subst}
-use mathlib.Core.Bool.{Bool, true, false}
+use mathlib.Core.Logic.{_⊎_, inl, inr, ⊎-elim}
+use mathlib.Core.Bool.{true}
 use mathlib.Core.List.{List}
-use Prim.Native.Nat.{ℕ, zero, suc, _+_, _-_, _≤_, _<_}
+use Prim.Native.Nat.{ℕ, _+_, _-_, _≤_, _<_}
 use native.Mathlib.Omega.{arith}
-use lib.Dec.{eqb}
 use lib.ListN.{length, getD}
-use borrow.Author.Tests.{ne-eqb, le-leb, lt-leb}
-use Rattle.mcode.specs.Word.{pick}
+use borrow.Author.Tests.{le-leb, lt-leb}
 use Rattle.mcode.specs.Opcode.{lengths}
 use Rattle.mcode.specs.Image.{parse}
-use Rattle.mcode.specs.Machine.{State, state, Outcome, go, halt, machine, isMachine, stopNumber, stopCode}
+use Rattle.mcode.specs.Machine.{State, state, go, machine, isMachine, stopNumber, stopCode}
 use Rattle.mcode.specs.Step.{Lent, stepOf}
 use Rattle.mcode.specs.Run.{RunEnd, after, runN, lentTo, refused, stopped as ended, runRefusal, runOf}
 use Rattle.mcode.specs.Demands.{Preserves}
@@ -23,11 +22,11 @@ use Rattle.mcode.proofs.Points.{preserves}
 use Rattle.mcode.proofs.Standing.{good-of}
 use Rattle.actions.specs.declared.Core.{Core}
 use Rattle.actions.specs.declared.Stepped.{Stepped}
-use Rattle.actions.specs.Core.{Left, leftBy, shown, held, result}
+use Rattle.actions.specs.Core.{Left, shown, held, result}
 use Rattle.actions.specs.Table.{Anchored, Lends}
 use Rattle.execute.specs.Stepping.{turned, opcodeAt, Asks, Prepared}
 use Rattle.execute.proofs.Fits.{asks-of, listed-of}
-use Rattle.execute.proofs.Went.{went-on, Stopped, stopped}
+use Rattle.execute.proofs.Went.{Stopped, turn-goes, turn-stops}
 use Rattle.engine.specs.Stops.{stopOf}
 
 -- the way back from a stop's number and code
@@ -50,17 +49,12 @@ stop-record : (k : Stop) (l : Left) (x : State) (c : ℕ) → l .stop ≡ stopNu
 stop-record k l x c a b d = rw (a, b, d, stop-back k)
 
 module _ (lent : Lent) (x : State) (l : Left) where
-  -- a turn with budget left is a step
-  stepping : (left : ℕ) → 1 ≤ left → turned lent left x ≡ leftBy x (stepOf lent x)
-  stepping left h = rw (ne-eqb left 0 (λ z. omega (arith, h, z)))
-
   -- a turn that goes on had budget left, since spent is a stop
   pub turn-more : (left : ℕ) → l ≡ turned lent left x → l .stop ≡ 0 → 1 ≤ left
-  turn-more zero e z = absurd (let f : ⊥ = omega (arith, sym (ap (λ (y : Left). y .stop) e) ∙ z) in f)
-  turn-more (suc left) e z = omega arith
+  turn-more left e z = omega (arith, turn-goes lent left x l e z .0)
 
   pub turn-went : (left : ℕ) → l ≡ turned lent left x → l .stop ≡ 0 → stepOf lent x ≡ go (l .state)
-  turn-went left e z = went-on x (stepOf lent x) l (e ∙ stepping left (turn-more left e z)) z
+  turn-went left e z = turn-goes lent left x l e z .1
 
   -- count steps of the budget n are done where `left` is left
   pub turn-next : (n left : ℕ) → left ≤ n → l ≡ turned lent left x → l .stop ≡ 0
@@ -75,21 +69,24 @@ module _ (lent : Lent) (x : State) (l : Left) where
 
   pub turn-stop : (n left : ℕ) → left ≤ n → l ≡ turned lent left x → (l .stop ≡ 0 → ⊥)
       → _≡_ {A = RunEnd} (record { stop = stopOf (l .stop) (l .code); count = n - left; state = l .state }) (after (n - left) (runN (stepOf lent) left x))
-  turn-stop n zero h e s =
-      let p : n - (n - zero) ≡ zero = omega arith in
-      let t = compose.spent (stepOf lent) n (n - zero) x (omega arith) in
-      ap (λ (y : Left). record { stop = stopOf (y .stop) (y .code); count = n - zero; state = y .state }) e
-      ∙ ap (λ (k : Stop). record { stop = k; count = n - zero; state = x }) (stop-back Spent) ∙ (rw p at t)
-  turn-stop n (suc left) h e s =
-      let w = stopped x (stepOf lent x) l (e ∙ stepping (suc left) (omega arith)) s in
-      let p : n - (n - suc left) ≡ suc left = omega arith in
-      let t = compose.found (stepOf lent) n (n - suc left) x (w .why) (omega arith) (w .halts) in
-      stop-record (w .why) l x (n - suc left) (w .number) (w .code) (w .same) ∙ (rw p at t)
+  turn-stop n left h e s = by (turn-stops lent left x l e s)
+    where
+      done : n - (n - left) ≡ left
+      done = omega arith
+
+      by : ((left ≡ 0) × (l ≡ record { stop = 30; code = 0; state = x })) ⊎ ((left ≡ 0 → ⊥) × Stopped x (stepOf lent x) l)
+          → _≡_ {A = RunEnd} (record { stop = stopOf (l .stop) (l .code); count = n - left; state = l .state }) (after (n - left) (runN (stepOf lent) left x))
+      by (inl (z, q)) =
+          let t = compose.spent (stepOf lent) n (n - left) x (omega (arith, z)) in
+          ap (λ (y : Left). record { stop = stopOf (y .stop) (y .code); count = n - left; state = y .state }) q
+          ∙ ap (λ (k : Stop). record { stop = k; count = n - left; state = x }) (stop-back Spent) ∙ (rw done at t)
+      by (inr (m, w)) =
+          let t = compose.found (stepOf lent) n (n - left) x (w .why) (omega (arith, m, h)) (w .halts) in
+          stop-record (w .why) l x (n - left) (w .number) (w .code) (w .same) ∙ (rw done at t)
 
   -- a stop leaves all as it was
   pub stop-same : (left : ℕ) → l ≡ turned lent left x → (l .stop ≡ 0 → ⊥) → l .state ≡ x
-  stop-same zero e s = ap (λ (y : Left). y .state) e
-  stop-same (suc left) e s = stopped x (stepOf lent x) l (e ∙ stepping (suc left) (omega arith)) s .same
+  stop-same left e s = ⊎-elim (λ a. ap (λ (y : Left). y .state) (a .1)) (λ b. b .1 .same) (turn-stops lent left x l e s)
 
 -- ---- the loop, over what run has tested
 

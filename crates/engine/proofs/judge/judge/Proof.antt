@@ -4,7 +4,8 @@ use lib.Dec.{eqb}
 use Rattle.mcode.specs.Word.{and}
 use borrow.Author.Tests.{not-true, not-false}
 use Rattle.engine.proofs.Begin.{read-told}
-use Rattle.engine.proofs.Judged.{refused-1, refused-7, refused-12, refused-9, refused-10, refused-11, passed-so, narrow-so, mapped-so, one-short}
+use Rattle.engine.proofs.Judged.{refused-1, refused-7, refused-12, refused-9, refused-10, refused-11, passed-so, prepared-so, narrow-so, one-short}
+use Rattle.execute.proofs.Fits.{mapped}
 use native.Mathlib.Omega.{arith}
 use borrow.Author.Tests.{ne-eqb, lt-ltb, le-ltb, le-leb, lt-leb, eq-eqb}
 use borrow.Author.Needs.{needs}
@@ -68,7 +69,8 @@ table-of-requires : tie.Need-table-of-requires
 table-of-requires c κs = narrow-so _ (read-told _ _ (c .before .before .before .before .before .before .before .before .before .read-image .ensures) (c .before .before .before .before .before .before .before .before .if1 .left)) (sym (c .before .before .before .store-fits .ensures) ∙ not-false _ (c .before .before .if4 .left))
 
 is-machine-requires : tie.Need-is-machine-requires
-is-machine-requires c κs = mapped-so _ _ (read-told _ _ (c .before .before .before .before .before .before .before .before .before .before .before .read-image .ensures) (c .before .before .before .before .before .before .before .before .before .before .if1 .left)) (c .before .table-of .ensures) (c .before .before .before .before .before .before .before .before .before .if2 .left)
+is-machine-requires c κs =
+    mapped _ _ _ _ (prepared-so _ _ _ _ _ _ _ (c .before .before .before .before .before .before .before .before .before .before .before .read-image .ensures) (c .before .before .before .before .before .before .before .before .before .before .if1 .left) (c .before .before .before .before .before .before .before .before .before .if2 .left) (sym (c .before .before .before .before .before .before .before .map-fits .ensures) ∙ not-false _ (c .before .before .before .before .before .before .if3 .left)) (sym (c .before .before .before .before .before .store-fits .ensures) ∙ not-false _ (c .before .before .before .before .if4 .left)) (c .before .before .before .if5 .left) (c .before .before .if6 .left) _ (c .before .table-of .ensures))
 
 refused-requires-7 : tie.Need-refused-requires-7
 refused-requires-7 c κs = search needs

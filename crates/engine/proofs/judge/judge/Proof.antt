@@ -70,7 +70,7 @@ table-of-requires c κs = narrow-so _ (read-told _ _ (c .before .before .before 
 
 is-machine-requires : tie.Need-is-machine-requires
 is-machine-requires c κs =
-    mapped _ _ _ _ (prepared-so _ _ _ _ _ _ _ (c .before .before .before .before .before .before .before .before .before .before .before .read-image .ensures) (c .before .before .before .before .before .before .before .before .before .before .if1 .left) (c .before .before .before .before .before .before .before .before .before .if2 .left) (sym (c .before .before .before .before .before .before .before .map-fits .ensures) ∙ not-false _ (c .before .before .before .before .before .before .if3 .left)) (sym (c .before .before .before .before .before .store-fits .ensures) ∙ not-false _ (c .before .before .before .before .if4 .left)) (c .before .before .before .if5 .left) (c .before .before .if6 .left) _ (c .before .table-of .ensures))
+    mapped _ _ _ (c .before .before .before .before .before .before .before .before .before .before .before .before .before .before .args .w) (prepared-so _ _ (c .before .before .before .before .before .before .before .before .before .before .before .before .before .before .args .machine) (c .before .before .before .before .before .before .before .before .before .before .before .before .before .before .args .w) (c .before .before .before .before .before .before .before .before .before .before .before .before .before .before .args .outs) (c .before .before .before .before .before .before .before .before .before .before .before .before .before .before .args .ins) _ (c .before .before .before .before .before .before .before .before .before .before .before .read-image .ensures) (c .before .before .before .before .before .before .before .before .before .before .if1 .left) (c .before .before .before .before .before .before .before .before .before .if2 .left) (sym (c .before .before .before .before .before .before .before .map-fits .ensures) ∙ not-false _ (c .before .before .before .before .before .before .if3 .left)) (sym (c .before .before .before .before .before .store-fits .ensures) ∙ not-false _ (c .before .before .before .before .if4 .left)) (c .before .before .before .if5 .left) (c .before .before .if6 .left) _ (c .before .table-of .ensures))
 
 refused-requires-7 : tie.Need-refused-requires-7
 refused-requires-7 c κs = search needs

@@ -14,7 +14,7 @@
 //! high word first. Each list is preceded by its length.
 //!
 //! ```text
-//! file:    4D43 hex, 1, long number of cases, the cases
+//! file:    4D43 hex, 2, long number of cases, the cases
 //! case:    long image length, image bytes (two a word, the first one high;
 //!            an odd last one is followed by a byte 0)
 //!          long map length, byte that fills the map
@@ -22,12 +22,14 @@
 //!          number of outputs, outputs
 //!          number of runs, the runs
 //! run:     long budget
-//!          number of inputs, inputs
+//!          0, or 1 and the number of inputs, inputs (else those of the run
+//!            before; the first run's are none)
 //!          0, or 1 and a machine
 //!          number of map patches, each: offset, byte
 //!          number of store patches, each: address, word
 //! machine: module (0 to 255), pc, depth (0 to 255), P, L, S, H, M,
-//!            16 stack words, the bottom first
+//!            number of stack words, stack words, the bottom first (the
+//!            others are 0)
 //! ```
 //!
 //! No image, map or store is longer than [`LONGEST`]; no list of inputs or
@@ -40,7 +42,7 @@ use crate::machine::Machine;
 use std::fmt;
 
 const MAGIC: u16 = 0x4D43;
-const VERSION: u16 = 1;
+const VERSION: u16 = 2;
 
 /// The most bytes or words of an image, a map or a store.
 pub const LONGEST: usize = 65_600;
@@ -152,21 +154,9 @@ pub fn replay<O: Observer>(case: &Case, observer: &mut O) -> Outcome {
     outcome
 }
 
-/// Words in a row, separated by blanks.
-struct Row<'a>(&'a [u16]);
-
-impl fmt::Display for Row<'_> {
-    fn fmt(&self, f: &mut fmt::Formatter) -> fmt::Result {
-        for (i, word) in self.0.iter().enumerate() {
-            write!(f, "{}{word}", if i == 0 { "" } else { " " })?;
-        }
-        Ok(())
-    }
-}
-
-/// The machine's words in the order of the file.
-fn machine_words(machine: &Machine) -> Vec<u16> {
-    let mut words = vec![
+/// The machine's registers in the order of the file.
+fn registers(machine: &Machine) -> [u16; 8] {
+    [
         u16::from(machine.module),
         machine.pc,
         u16::from(machine.depth),
@@ -175,9 +165,29 @@ fn machine_words(machine: &Machine) -> Vec<u16> {
         machine.s,
         machine.h,
         machine.m,
-    ];
-    words.extend(machine.stack);
-    words
+    ]
+}
+
+/// The stack up to its last word that is not 0.
+fn stack(machine: &Machine) -> &[u16] {
+    let zeros = machine.stack.iter().rev().take_while(|&&word| word == 0);
+    &machine.stack[..16 - zeros.count()]
+}
+
+/// The word `machine`, the registers, the word `stack`, its words.
+struct MachineText<'a>(&'a Machine);
+
+impl fmt::Display for MachineText<'_> {
+    fn fmt(&self, f: &mut fmt::Formatter) -> fmt::Result {
+        write!(f, "machine")?;
+        registers(self.0)
+            .iter()
+            .try_for_each(|word| write!(f, " {word}"))?;
+        write!(f, " stack")?;
+        stack(self.0)
+            .iter()
+            .try_for_each(|word| write!(f, " {word}"))
+    }
 }
 
 impl fmt::Display for Outcome {
@@ -185,27 +195,25 @@ impl fmt::Display for Outcome {
     fn fmt(&self, f: &mut fmt::Formatter) -> fmt::Result {
         writeln!(
             f,
-            "load {} map {} start {} store {} machine {}",
+            "load {} map {} start {} store {} {}",
             self.load,
             self.map,
             self.start,
             self.store,
-            Row(&machine_words(&self.machine)),
+            MachineText(&self.machine),
         )?;
         for run in &self.runs {
             let answer = &run.answer;
-            write!(
+            writeln!(
                 f,
-                "run {} code {} count {} machine {} outputs",
+                "run {} code {} count {} {} outputs {} store {}",
                 answer.number,
                 answer.code,
                 answer.count,
-                Row(&machine_words(&answer.machine)),
+                MachineText(&answer.machine),
+                Checksum::of(run.outputs.iter().copied()),
+                run.store,
             )?;
-            for word in &run.outputs {
-                write!(f, " {word}")?;
-            }
-            writeln!(f, " store {}", run.store)?;
         }
         Ok(())
     }
@@ -227,14 +235,18 @@ pub fn encode(cases: &[Case]) -> Vec<u8> {
         out.word(case.store_fill);
         out.list(&case.outputs);
         out.word(case.runs.len() as u16);
+        let mut inputs: &[u16] = &[];
         for run in &case.runs {
             out.long(run.budget);
-            out.list(&run.inputs);
+            out.word(u16::from(run.inputs != inputs));
+            if run.inputs != inputs {
+                out.list(&run.inputs);
+                inputs = &run.inputs;
+            }
             out.word(u16::from(run.machine.is_some()));
             if let Some(machine) = &run.machine {
-                machine_words(machine)
-                    .iter()
-                    .for_each(|&word| out.word(word));
+                registers(machine).iter().for_each(|&word| out.word(word));
+                out.list(stack(machine));
             }
             out.word(run.map_patches.len() as u16);
             for &(offset, byte) in &run.map_patches {
@@ -272,7 +284,7 @@ impl Output {
 pub fn decode(file: &[u8]) -> Result<Vec<Case>, String> {
     let mut input = Input { file, position: 0 };
     if input.word()? != MAGIC || input.word()? != VERSION {
-        return Err("this is no file of cases, version 1".into());
+        return Err("this is no file of cases, version 2".into());
     }
     let count = input.long()?;
     let cases: Result<Vec<Case>, String> = (0..count).map(|_| input.case()).collect();
@@ -310,6 +322,12 @@ impl<'a> Input<'a> {
         } else {
             Err(format!("{number} is above {limit} at {}", self.position))
         }
+    }
+
+    /// The word that says whether something follows.
+    fn follows(&mut self) -> Result<bool, String> {
+        let word = usize::from(self.word()?);
+        Ok(self.limited(word, 1)? == 1)
     }
 
     fn byte_in_word(&mut self) -> Result<u8, String> {
@@ -350,11 +368,14 @@ impl<'a> Input<'a> {
     fn run(&mut self, case: &Case) -> Result<CaseRun, String> {
         let mut run = CaseRun {
             budget: self.long()? as u32,
-            inputs: self.list()?,
             ..CaseRun::default()
         };
-        let with_machine = usize::from(self.word()?);
-        if self.limited(with_machine, 1)? == 1 {
+        if self.follows()? {
+            run.inputs = self.list()?;
+        } else if let Some(before) = case.runs.last() {
+            run.inputs = before.inputs.clone();
+        }
+        if self.follows()? {
             run.machine = Some(self.machine()?);
         }
         for _ in 0..self.word()? {
@@ -382,8 +403,9 @@ impl<'a> Input<'a> {
             m: self.word()?,
             stack: [0; 16],
         };
-        for word in &mut machine.stack {
-            *word = self.word()?;
+        let words = usize::from(self.word()?);
+        for i in 0..self.limited(words, 16)? {
+            machine.stack[i] = self.word()?;
         }
         Ok(machine)
     }

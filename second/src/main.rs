@@ -15,10 +15,12 @@ usage: second reading [FILE]
            print the desk's reading of an image, from FILE or standard input
        second map FILE
            print load's number and, if it accepts, the map in hex
-       second coverage [--seed N] [--cases N]
+       second coverage [--small] [--seed N] [--cases N]
            replay generated cases and print what they reach; exit 1 if an
            opcode, a stop or a refusal is missing
-       second cases [--seed N] [--count N] OUT
+       second coverage CASES
+           the same for the cases of a file
+       second cases [--small] [--seed N] [--count N] OUT
            write generated cases to the file OUT
        second expect CASES
            print what this interpreter says about each case of a file
@@ -27,7 +29,8 @@ usage: second reading [FILE]
        second --help
            print this
 
-N is a decimal number. Seeds are 1 unless given, cases 2000.
+N is a decimal number. Seeds are 1 unless given, cases 2000. With --small most
+cases have small images and few runs, and a few have the largest sizes.
 Exit status: 0, or 1 where coverage misses something, or 2 after an error.
 ";
 
@@ -111,37 +114,64 @@ fn print_map(image: &[u8]) -> Answer {
     print(&text)
 }
 
-/// Takes `--name N` options from the arguments; answers their values and the
-/// other arguments.
-fn options<const COUNT: usize>(
-    arguments: &[OsString],
-    names: [&str; COUNT],
-    mut values: [u64; COUNT],
-) -> Result<([u64; COUNT], Vec<OsString>), String> {
-    let mut others = Vec::new();
-    let mut arguments = arguments.iter();
-    while let Some(argument) = arguments.next() {
-        let Some(option) = names.iter().position(|name| argument == name) else {
-            if argument.to_string_lossy().starts_with("--") {
-                return Err(format!("no option {}", name_of(argument)));
-            }
-            others.push(argument.clone());
-            continue;
+/// The options for generated cases, and the other arguments.
+struct Generated<'a> {
+    scale: &'static gen::Scale,
+    seed: u64,
+    count: u64,
+    given: bool,
+    others: Vec<&'a OsString>,
+}
+
+impl Generated<'_> {
+    /// Takes `--small`, `--seed N` and the option for the number of cases.
+    fn options<'a>(arguments: &'a [OsString], counts: &str) -> Result<Generated<'a>, String> {
+        let mut options = Generated {
+            scale: &gen::FULL,
+            seed: 1,
+            count: 2000,
+            given: false,
+            others: Vec::new(),
         };
-        let value = arguments.next().and_then(|value| value.to_str());
-        values[option] = value
-            .and_then(|value| value.parse().ok())
-            .ok_or_else(|| format!("{} needs a decimal number", names[option]))?;
+        let mut arguments = arguments.iter();
+        while let Some(argument) = arguments.next() {
+            if !argument.to_string_lossy().starts_with("--") {
+                options.others.push(argument);
+                continue;
+            }
+            options.given = true;
+            let name = name_of(argument);
+            let mut number = || {
+                let value = arguments.next().and_then(|value| value.to_str());
+                value
+                    .and_then(|value| value.parse().ok())
+                    .ok_or_else(|| format!("{name} needs a decimal number"))
+            };
+            match &name[..] {
+                "--small" => options.scale = &gen::SMALL,
+                "--seed" => options.seed = number()?,
+                _ if name == counts => options.count = number()?,
+                _ => return Err(format!("no option {name}")),
+            }
+        }
+        if options.count > u64::from(u32::MAX) {
+            return Err(format!("{counts} is too large"));
+        }
+        Ok(options)
     }
-    Ok((values, others))
+
+    fn cases(&self) -> impl Iterator<Item = case::Case> {
+        gen::cases(self.scale, self.seed, self.count)
+    }
 }
 
 fn coverage(arguments: &[OsString]) -> Answer {
-    let ([seed, cases], others) = options(arguments, ["--seed", "--cases"], [1, 2000])?;
-    if let [other, ..] = &others[..] {
-        return Err(format!("coverage takes no argument {}", name_of(other)));
-    }
-    let coverage = Coverage::of(gen::cases(seed, cases));
+    let options = Generated::options(arguments, "--cases")?;
+    let coverage = match &options.others[..] {
+        [] => Coverage::of(options.cases()),
+        [file] if !options.given => Coverage::of(read_cases(file)?.into_iter()),
+        [file, ..] => return Err(format!("coverage takes {} alone", name_of(file))),
+    };
     print(&coverage.report())?;
     let faults = coverage.faults();
     if faults.is_empty() {
@@ -155,25 +185,25 @@ fn coverage(arguments: &[OsString]) -> Answer {
 }
 
 fn write_cases(arguments: &[OsString]) -> Answer {
-    let ([seed, count], others) = options(arguments, ["--seed", "--count"], [1, 2000])?;
-    let [out] = &others[..] else {
+    let options = Generated::options(arguments, "--count")?;
+    let [out] = options.others[..] else {
         return Err("cases needs one file to write".into());
     };
-    if count > u64::from(u32::MAX) {
-        return Err("--count is too large".into());
-    }
-    let cases: Vec<case::Case> = gen::cases(seed, count).collect();
+    let cases: Vec<case::Case> = options.cases().collect();
     std::fs::write(out, case::encode(&cases))
         .map_err(|error| format!("{}: {error}", name_of(out)))?;
     Ok(0)
 }
 
-fn expect(file: &OsStr) -> Answer {
+fn read_cases(file: &OsStr) -> Result<Vec<case::Case>, String> {
     let name = name_of(file);
     let bytes = read_all(open(file)?, &name, u64::MAX)?;
-    let cases = case::decode(&bytes).map_err(|error| format!("{name}: {error}"))?;
+    case::decode(&bytes).map_err(|error| format!("{name}: {error}"))
+}
+
+fn expect(file: &OsStr) -> Answer {
     let mut text = String::new();
-    for (number, case) in cases.iter().enumerate() {
+    for (number, case) in read_cases(file)?.iter().enumerate() {
         text += &format!("case {number}\n{}", case::replay(case, &mut ()));
     }
     print(&text)

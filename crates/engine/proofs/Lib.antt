@@ -5,5 +5,6 @@ pub mod Fill
 pub mod Judged
 pub mod Numbers
 pub mod Closed
+pub mod Composed
 pub mod Turns
 pub mod Whole

@@ -109,10 +109,10 @@ pub fn run(
     let table = judged.table;
     let s = steps(machine, image, &table, map, store, inputs, outputs, n);
     let stop = s.stop;
-    let after = s.machine;
+    let last = s.machine;
     Ran {
         ending: Ending::Stopped(stop),
         count: s.count,
-        machine: after,
+        machine: last,
     }
 }

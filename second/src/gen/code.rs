@@ -22,11 +22,13 @@ pub struct Shape {
     pub statements: usize,
     /// The largest data size.
     pub data: usize,
-    /// Module 0's main program holds every listed opcode.
-    pub all_opcodes: bool,
+    /// What module 0's main program holds, if not statements.
+    pub opcodes: Vec<u8>,
     /// Most instructions get operands that do not trap, and frames and data
     /// are large enough for the offsets used.
     pub careful: bool,
+    /// Of the stores that could have 65,535 words, one in so many has.
+    pub large_stores: usize,
 }
 
 /// A random program.
@@ -78,8 +80,8 @@ fn write_module(
             code: Vec::new(),
             depth: procedures[number].parameters,
         };
-        if shape.all_opcodes && (module, number) == (0, 0) {
-            writer.all_opcodes();
+        if !shape.opcodes.is_empty() && (module, number) == (0, 0) {
+            writer.each_of(&shape.opcodes);
         } else {
             writer.procedure(shape.statements);
         }
@@ -143,9 +145,9 @@ impl Writer<'_> {
         }
     }
 
-    /// Every listed opcode at least once.
-    fn all_opcodes(&mut self) {
-        let mut opcodes: Vec<u8> = opcode::listed().collect();
+    /// Each of these opcodes at least once.
+    fn each_of(&mut self, opcodes: &[u8]) {
+        let mut opcodes = opcodes.to_vec();
         self.rng.shuffle(&mut opcodes);
         for opcode in opcodes {
             self.instruction(opcode, 0);

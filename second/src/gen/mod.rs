@@ -7,54 +7,134 @@ mod state;
 use crate::assemble::{encode, Source};
 use crate::case::{Case, CaseRun};
 use crate::machine::Machine;
+use crate::opcode::{self, CL, RTN, TRA};
 use code::{program, some_word, Shape};
 use rng::Rng;
 use state::World;
 
+/// How large cases are, and how many runs they have.
+pub struct Scale {
+    modules: usize,
+    procedures: usize,
+    statements: [usize; 4],
+    /// One program in so many holds every listed opcode.
+    full_programs: usize,
+    /// The most runs of a program from its start on.
+    program_runs: usize,
+    /// The opcodes in the main program of a case of states.
+    state_opcodes: usize,
+    state_runs: usize,
+    /// Alterations of a map, with two runs each.
+    alterations: usize,
+    machine_runs: usize,
+    /// Of the stores and codes that could be too large or nearly so, one in so
+    /// many is.
+    large_parts: usize,
+    /// Rounds of 32 cases from one of the largest sizes to the next.
+    large_rounds: u64,
+    /// One run in so many has inputs of its own.
+    own_inputs: usize,
+}
+
+/// For as much as can be in one case.
+pub const FULL: Scale = Scale {
+    modules: 4,
+    procedures: 5,
+    statements: [2, 6, 12, 24],
+    full_programs: 4,
+    program_runs: 5,
+    state_opcodes: 256,
+    state_runs: 24,
+    alterations: 8,
+    machine_runs: 16,
+    large_parts: 1,
+    large_rounds: 4,
+    own_inputs: 1,
+};
+
+/// For many cases in a short file.
+pub const SMALL: Scale = Scale {
+    modules: 2,
+    procedures: 3,
+    statements: [1, 2, 3, 5],
+    full_programs: 60,
+    program_runs: 3,
+    state_opcodes: 6,
+    state_runs: 5,
+    alterations: 2,
+    machine_runs: 4,
+    large_parts: 20,
+    large_rounds: 12,
+    own_inputs: 8,
+};
+
 /// One case of a seed.
-pub fn case(seed: u64, index: u64) -> Case {
+pub fn case(scale: &Scale, seed: u64, index: u64) -> Case {
     let rng = &mut Rng::for_case(seed, index);
     let round = index / 32;
-    match index % 32 {
-        0..=9 => program_case(rng),
-        10..=15 => state_case(rng, None),
-        16..=18 => state_case(rng, Some(0o256)),
-        19..=20 => state_case(rng, Some(0o354)),
-        21..=23 => mutant_case(rng),
-        24..=25 => header_case(rng),
-        26 => depth_case(rng),
-        27..=28 => broken_map_case(rng),
-        29 => broken_machine_case(rng),
-        31 if round.is_multiple_of(4) => large_case(rng, round / 4),
-        _ => sizes_case(rng),
+    let mut case = match index % 32 {
+        0..=9 => program_case(rng, scale),
+        10..=15 => state_case(rng, scale, None),
+        16..=18 => state_case(rng, scale, Some(TRA)),
+        19..=20 => state_case(rng, scale, Some(RTN)),
+        21..=23 => mutant_case(rng, scale),
+        24..=25 => header_case(rng, scale),
+        26 => depth_case(rng, scale),
+        27..=28 => broken_map_case(rng, scale),
+        29 => broken_machine_case(rng, scale),
+        31 if round.is_multiple_of(scale.large_rounds) => {
+            large_case(rng, round / scale.large_rounds)
+        }
+        _ => sizes_case(rng, scale),
+    };
+    keep_inputs(rng, scale, &mut case.runs);
+    case
+}
+
+/// Gives most runs the inputs of the run before, if there are 16.
+fn keep_inputs(rng: &mut Rng, scale: &Scale, runs: &mut [CaseRun]) {
+    for i in 1..runs.len() {
+        let usual = runs[i - 1].inputs.len() == 16 && runs[i].inputs.len() == 16;
+        if !rng.once_in(scale.own_inputs) && usual {
+            runs[i].inputs = runs[i - 1].inputs.clone();
+        }
     }
 }
 
 /// The first cases of a seed.
-pub fn cases(seed: u64, count: u64) -> impl Iterator<Item = Case> {
-    (0..count).map(move |index| case(seed, index))
+pub fn cases(scale: &Scale, seed: u64, count: u64) -> impl Iterator<Item = Case> + '_ {
+    (0..count).map(move |index| case(scale, seed, index))
 }
 
-fn any_shape(rng: &mut Rng) -> Shape {
+fn any_shape(rng: &mut Rng, scale: &Scale) -> Shape {
     Shape {
-        modules: rng.within(1, 4),
-        procedures: rng.within(1, 5),
-        statements: rng.pick(&[2, 6, 12, 24]),
+        modules: rng.within(1, scale.modules),
+        procedures: rng.within(1, scale.procedures),
+        statements: rng.pick(&scale.statements),
         data: rng.pick(&[0, 5, 40]),
-        all_opcodes: false,
+        opcodes: Vec::new(),
         careful: !rng.once_in(3),
+        large_stores: scale.large_parts,
     }
 }
 
-/// Every listed opcode in the main program, sixteen procedures to be called.
-fn full_shape(rng: &mut Rng) -> Shape {
+/// Some of the listed opcodes in the main program, or all of them, and enough
+/// procedures to be called.
+fn opcode_shape(rng: &mut Rng, scale: &Scale, count: usize, opcode: Option<u8>) -> Shape {
+    let mut opcodes: Vec<u8> = opcode::listed().collect();
+    rng.shuffle(&mut opcodes);
+    opcodes.truncate(count);
+    opcodes.extend(opcode);
+    let called = |opcode: &u8| usize::from(opcode.saturating_sub(CL));
+    let highest = opcodes.iter().map(called).max().unwrap_or_default();
     Shape {
         modules: rng.within(2, 3),
-        procedures: rng.within(16, 18),
-        statements: 2,
+        procedures: highest + rng.within(1, 3),
+        statements: scale.statements[0],
         data: 20,
-        all_opcodes: true,
+        opcodes,
         careful: rng.once_in(2),
+        large_stores: scale.large_parts,
     }
 }
 
@@ -85,8 +165,8 @@ fn plain_run(rng: &mut Rng, budget: usize) -> CaseRun {
 }
 
 /// A few runs in a row, with the same machine all along.
-fn plain_runs(rng: &mut Rng) -> Vec<CaseRun> {
-    (0..rng.within(1, 5))
+fn plain_runs(rng: &mut Rng, scale: &Scale) -> Vec<CaseRun> {
+    (0..rng.within(1, scale.program_runs))
         .map(|_| {
             let most = rng.pick(&[1, 3, 20, 300, 2000]);
             let budget = rng.within(0, most);
@@ -96,36 +176,37 @@ fn plain_runs(rng: &mut Rng) -> Vec<CaseRun> {
 }
 
 /// An accepted program from its start on, with processes to transfer to.
-fn program_case(rng: &mut Rng) -> Case {
-    let shape = if rng.once_in(4) {
-        full_shape(rng)
+fn program_case(rng: &mut Rng, scale: &Scale) -> Case {
+    let shape = if rng.once_in(scale.full_programs) {
+        opcode_shape(rng, scale, 256, None)
     } else {
-        any_shape(rng)
+        any_shape(rng, scale)
     };
     let world = World::new(rng, &shape);
     let mut case = case_of(rng, world.image.clone(), world.words);
-    case.runs = plain_runs(rng);
+    case.runs = plain_runs(rng, scale);
     case.runs[0].store_patches = world.processes(rng);
     case
 }
 
 /// Single steps, or a few, from machines at any marked position.
-fn state_case(rng: &mut Rng, opcode: Option<u8>) -> Case {
-    let shape = full_shape(rng);
+fn state_case(rng: &mut Rng, scale: &Scale, opcode: Option<u8>) -> Case {
+    let shape = opcode_shape(rng, scale, scale.state_opcodes, opcode);
     let world = World::new(rng, &shape);
     let mut case = case_of(rng, world.image.clone(), world.words);
-    for _ in 0..24 {
+    for _ in 0..scale.state_runs {
         let budget = rng.pick(&[1, 1, 1, 2, 5, 30]);
         let mut run = plain_run(rng, budget);
-        world.set_state(rng, opcode, &mut run);
+        let opcode = opcode.unwrap_or_else(|| rng.pick(&shape.opcodes));
+        world.set_state(rng, Some(opcode), &mut run);
         case.runs.push(run);
     }
     case
 }
 
 /// An accepted image with a few bytes changed, cut off or appended.
-fn mutant_case(rng: &mut Rng) -> Case {
-    let shape = any_shape(rng);
+fn mutant_case(rng: &mut Rng, scale: &Scale) -> Case {
+    let shape = any_shape(rng, scale);
     let mut image = encode(&program(rng, &shape));
     for _ in 0..rng.within(1, 3) {
         let position = rng.below(image.len());
@@ -144,13 +225,13 @@ fn mutant_case(rng: &mut Rng) -> Case {
         }
     }
     let mut case = case_of(rng, image, 1000);
-    case.runs = plain_runs(rng);
+    case.runs = plain_runs(rng, scale);
     case
 }
 
 /// Headers with one fault or more, mostly at a known place.
-fn header_case(rng: &mut Rng) -> Case {
-    let shape = any_shape(rng);
+fn header_case(rng: &mut Rng, scale: &Scale) -> Case {
+    let shape = any_shape(rng, scale);
     let mut modules = program(rng, &shape);
     let at = rng.below(modules.len());
     let module = &mut modules[at];
@@ -158,7 +239,9 @@ fn header_case(rng: &mut Rng) -> Case {
     let fault = rng.below(12);
     match fault {
         0 => module.code.clear(),
-        1 => module.code.resize(rng.pick(&[32_768, 40_000]), 0o336),
+        1 if rng.once_in(scale.large_parts) => {
+            module.code.resize(rng.pick(&[32_768, 40_000]), 0o336)
+        }
         2..=5 => {
             if module.procedures.is_empty() {
                 module.procedures.push(crate::image::Procedure {
@@ -198,7 +281,7 @@ fn header_case(rng: &mut Rng) -> Case {
 }
 
 /// Code of listed opcodes in no order: most fits no depths.
-fn depth_case(rng: &mut Rng) -> Case {
+fn depth_case(rng: &mut Rng, scale: &Scale) -> Case {
     const FRIENDLY: [u8; 12] = [
         0o000, 0o001, 0o003, 0o032, 0o033, 0o034, 0o035, 0o036, 0o265, 0o270, 0o336, 0o354,
     ];
@@ -215,16 +298,16 @@ fn depth_case(rng: &mut Rng) -> Case {
         })
         .collect();
     let mut case = case_of(rng, encode(&modules), 400);
-    case.runs = plain_runs(rng);
+    case.runs = plain_runs(rng, scale);
     case
 }
 
 /// Maps that somebody has altered, one run after another.
-fn broken_map_case(rng: &mut Rng) -> Case {
-    let shape = any_shape(rng);
+fn broken_map_case(rng: &mut Rng, scale: &Scale) -> Case {
+    let shape = any_shape(rng, scale);
     let world = World::new(rng, &shape);
     let mut case = case_of(rng, world.image.clone(), world.words);
-    for _ in 0..8 {
+    for _ in 0..scale.alterations {
         let mut run = plain_run(rng, 5);
         let offset = rng.below(world.image.len());
         let byte = match rng.below(4) {
@@ -244,12 +327,12 @@ fn broken_map_case(rng: &mut Rng) -> Case {
 }
 
 /// Machines that are none, for one reason or more.
-fn broken_machine_case(rng: &mut Rng) -> Case {
-    let shape = any_shape(rng);
+fn broken_machine_case(rng: &mut Rng, scale: &Scale) -> Case {
+    let shape = any_shape(rng, scale);
     let world = World::new(rng, &shape);
     let mut case = case_of(rng, world.image.clone(), world.words);
     let words = world.words as u16;
-    for _ in 0..16 {
+    for _ in 0..scale.machine_runs {
         let mut run = plain_run(rng, 3);
         world.set_state(rng, None, &mut run);
         let mut machine = run.machine.unwrap_or_default();
@@ -276,15 +359,15 @@ fn break_machine(rng: &mut Rng, machine: &mut Machine, words: u16) {
 }
 
 /// Stores, maps, inputs and outputs of other lengths.
-fn sizes_case(rng: &mut Rng) -> Case {
-    let shape = any_shape(rng);
+fn sizes_case(rng: &mut Rng, scale: &Scale) -> Case {
+    let shape = any_shape(rng, scale);
     let world = World::new(rng, &shape);
     let least = world.least_words();
     let words = match rng.below(5) {
         0 => rng.below(least),
         1 => least - 1,
         2 => least,
-        3 => rng.pick(&[65_534, 65_535, 65_536]),
+        3 if rng.once_in(scale.large_parts) => rng.pick(&[65_534, 65_535, 65_536]),
         _ => world.words,
     };
     let mut case = case_of(rng, world.image.clone(), words);
@@ -319,8 +402,9 @@ fn large_case(rng: &mut Rng, kind: u64) -> Case {
             procedures,
             statements: 3,
             data,
-            all_opcodes: false,
+            opcodes: Vec::new(),
             careful: rng.once_in(2),
+            large_stores: 1,
         };
         program(rng, &shape)
     };

@@ -42,10 +42,10 @@ impl World {
         let least = program.z as usize + Machine::LEAST_BEYOND_Z;
         let words = match rng.below(8) {
             // A careful program wants room for its frames.
-            1.. if shape.careful && !shape.all_opcodes => least + rng.within(500, 4000),
+            1.. if shape.careful && shape.opcodes.is_empty() => least + rng.within(500, 4000),
             0 => least,
             1 | 2 => least + rng.below(80),
-            3 => 65_535,
+            3 if rng.once_in(shape.large_stores) => 65_535,
             _ => least + rng.within(200, 2000),
         };
         World {

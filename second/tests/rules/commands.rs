@@ -88,13 +88,32 @@ fn cases_and_expect() {
     let path = path.to_str().unwrap();
     let output = second(&["cases", "--seed", "5", "--count", "40", path], &[]);
     assert_eq!(output.status.code(), Some(0));
-    let expected: String = second::gen::cases(5, 40)
+    let expected: String = second::gen::cases(&second::gen::FULL, 5, 40)
         .enumerate()
         .map(|(i, case)| format!("case {i}\n{}", second::case::replay(&case, &mut ())))
         .collect();
     let output = second(&["expect", path], &[]);
     assert_eq!(output.status.code(), Some(0));
     assert_eq!(text(&output.stdout), expected);
+}
+
+/// Small cases are written and their coverage is judged from the file.
+#[test]
+fn small_cases_and_their_coverage() {
+    let path = file("cases-small", &[]);
+    let path = path.to_str().unwrap();
+    let write = |count: &str| {
+        let arguments = ["cases", "--small", "--seed", "51", "--count", count, path];
+        assert_eq!(second(&arguments, &[]).status.code(), Some(0));
+        second(&["coverage", path], &[])
+    };
+    let output = write("3008");
+    assert_eq!(output.status.code(), Some(0));
+    assert!(text(&output.stdout).starts_with("cases 3008\n"));
+    assert!(text(&output.stdout).ends_with("all opcodes, stops and refusals are covered\n"));
+    let output = write("1");
+    assert_eq!(output.status.code(), Some(1));
+    assert!(text(&output.stdout).contains("missing: load never answered 8\n"));
 }
 
 #[test]
@@ -121,7 +140,9 @@ fn errors_are_one_line_and_status_2() {
         &["coverage", "--seed"],
         &["coverage", "--seed", "x"],
         &["coverage", "--count", "1"],
-        &["coverage", "extra"],
+        &["coverage", missing],
+        &["coverage", no_file],
+        &["coverage", "--small", no_file],
         &["cases"],
         &["cases", "a", "b"],
         &["expect"],

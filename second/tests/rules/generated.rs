@@ -3,28 +3,27 @@
 use second::api::{run_observed, Buffers};
 use second::case::{decode, encode, replay, Case, CaseRun, Checksum};
 use second::coverage::Coverage;
-use second::gen;
+use second::gen::{self, Scale, FULL, SMALL};
 use second::image::parse;
 use second::opcode::row;
 use second::{load, run, start, Machine, RunAnswer};
 
 #[test]
 fn cases_depend_on_seed_and_index_alone() {
-    for index in 0..64 {
-        assert_eq!(gen::case(7, index), gen::case(7, index));
-    }
-    assert_ne!(gen::case(7, 0), gen::case(8, 0));
-    let listed: Vec<Case> = gen::cases(7, 3).collect();
-    assert_eq!(listed[2], gen::case(7, 2));
+    let same = |scale: &Scale, index| gen::case(scale, 7, index) == gen::case(scale, 7, index);
+    assert!((0..64).all(|index| same(&FULL, index) && same(&SMALL, index)));
+    assert_ne!(gen::case(&FULL, 7, 0), gen::case(&FULL, 8, 0));
+    let listed: Vec<Case> = gen::cases(&FULL, 7, 3).collect();
+    assert_eq!(listed[2], gen::case(&FULL, 7, 2));
 }
 
 #[test]
 fn everything_is_covered() {
-    let coverage = Coverage::of(gen::cases(1, 2000));
+    let coverage = Coverage::of(gen::cases(&FULL, 1, 2000));
     assert_eq!(coverage.faults(), Vec::<String>::new());
     // And what is not covered is found: no case, no coverage. All opcodes but
     // 304, the stops of opcodes, 30, and the refusals.
-    let nothing = Coverage::of(gen::cases(1, 0));
+    let nothing = Coverage::of(gen::cases(&FULL, 1, 0));
     let faults = nothing.faults();
     assert!(faults.contains(&"opcode 270 UADD was never executed".to_string()));
     assert!(faults.contains(&"opcode 333 DIV never stopped with 37".to_string()));
@@ -37,7 +36,7 @@ fn everything_is_covered() {
 #[test]
 fn files_of_cases_are_read_back() {
     // Two rounds of large cases.
-    let cases: Vec<Case> = gen::cases(3, 32 * 4 * 9).collect();
+    let cases: Vec<Case> = gen::cases(&FULL, 3, 32 * 4 * 9).collect();
     let file = encode(&cases);
     assert_eq!(file.len() % 2, 0);
     assert_eq!(decode(&file).as_ref(), Ok(&cases));
@@ -60,7 +59,7 @@ fn the_file_is_as_documented() {
         s: 6,
         h: 7,
         m: 8,
-        stack: std::array::from_fn(|i| 0x100 + i as u16),
+        stack: std::array::from_fn(|i| if i < 13 { 0x100 + i as u16 } else { 0 }),
     };
     let case = Case {
         image: vec![0xAB, 0xCD, 0xEF],
@@ -77,22 +76,29 @@ fn the_file_is_as_documented() {
                 map_patches: vec![(3, 0xFF)],
                 store_patches: vec![(12, 13), (14, 15)],
             },
+            // The inputs of the run before, and none.
+            CaseRun {
+                inputs: vec![11],
+                ..CaseRun::default()
+            },
             CaseRun::default(),
         ],
     };
-    let mut expected: Vec<u16> = vec![0x4D43, 1, 0, 1];
+    let mut expected: Vec<u16> = vec![0x4D43, 2, 0, 1];
     expected.extend([0, 3, 0xABCD, 0xEF00]);
     expected.extend([0, 4, 0x55]);
     expected.extend([1, 0, 0x1234]);
     expected.extend([2, 9, 10]);
-    expected.push(2);
+    expected.push(3);
     expected.extend([1, 2]);
-    expected.extend([1, 11]);
+    expected.extend([1, 1, 11]);
     expected.extend([1, 1, 2, 3, 4, 5, 6, 7, 8]);
-    expected.extend(0x100..0x110);
+    expected.push(13);
+    expected.extend(0x100..0x10D);
     expected.extend([1, 3, 0xFF]);
     expected.extend([2, 12, 13, 14, 15]);
     expected.extend([0, 0, 0, 0, 0, 0]);
+    expected.extend([0, 0, 1, 0, 0, 0, 0]);
     let bytes: Vec<u8> = expected.iter().flat_map(|w| w.to_be_bytes()).collect();
     assert_eq!(encode(&[case]), bytes);
 }
@@ -128,17 +134,56 @@ fn an_outcome_is_printed_in_lines() {
     };
     let text = replay(&case, &mut ()).to_string();
     let lines: Vec<&str> = text.lines().collect();
-    let zeros = "0 0 0 0 0 0 0 0 0 0 0 0 0 0 0 0";
     assert_eq!(lines.len(), 3);
     assert!(lines[0].starts_with("load 0 map "));
-    assert!(lines[0].ends_with(&format!(" machine 0 0 0 131 139 143 143 0 {zeros}")));
-    let outputs = "outputs 3 3 7 3 3 3 3 3 3 3 3 3 3 3 3 3 store ";
-    let stopped =
-        format!("run 31 code 0 count 3 machine 0 3 0 131 139 143 143 0 {zeros} {outputs}");
+    assert!(lines[0].ends_with(" machine 0 0 0 131 139 143 143 0 stack"));
+    let mut outputs = [3; 16];
+    outputs[2] = 7;
+    let outputs = format!("outputs {} store ", Checksum::of(outputs.into_iter()));
+    let stopped = format!("run 31 code 0 count 3 machine 0 3 0 131 139 143 143 0 stack {outputs}");
     assert!(lines[1].starts_with(&stopped), "{}", lines[1]);
-    let refused =
-        format!("run 10 code 0 count 0 machine 0 3 0 131 139 143 143 0 {zeros} {outputs}");
+    let refused = format!("run 10 code 0 count 0 machine 0 3 0 131 139 143 143 0 stack {outputs}");
     assert!(lines[2].starts_with(&refused), "{}", lines[2]);
+}
+
+/// The stack is printed up to its last word that is not 0.
+#[test]
+fn a_stack_is_printed_without_its_last_zeros() {
+    let mut machine = Machine::default();
+    machine.stack[1] = 5;
+    let case = Case {
+        runs: vec![CaseRun {
+            machine: Some(machine),
+            ..CaseRun::default()
+        }],
+        ..Case::default()
+    };
+    let text = replay(&case, &mut ()).to_string();
+    assert!(text.contains(
+        "\nrun 1 code 0 count 0 machine 0 0 0 0 0 0 0 0 stack 0 5 outputs 1 1 store 1 1\n"
+    ));
+}
+
+/// Small cases reach the largest sizes too.
+#[test]
+fn small_cases_have_the_largest_sizes() {
+    let largest = |size: fn(&Case) -> usize| {
+        let cases = gen::cases(&SMALL, 51, 3008);
+        cases.map(|case| size(&case)).max()
+    };
+    assert_eq!(largest(|case| case.image.len()), Some(65_536));
+    assert_eq!(largest(|case| case.store_length), Some(65_536));
+    let modules = |case: &Case| parse(&case.image).map_or(0, |program| program.modules.len());
+    assert_eq!(largest(modules), Some(32));
+    let code = |case: &Case| {
+        let modules = parse(&case.image).map_or(Vec::new(), |program| program.modules);
+        modules
+            .iter()
+            .map(|module| module.code_length)
+            .max()
+            .unwrap_or(0)
+    };
+    assert_eq!(largest(code), Some(32_767));
 }
 
 /// A case's buffers while it is replayed by the tests.
@@ -194,7 +239,7 @@ fn for_each_run(cases: impl Iterator<Item = Case>, check: impl Fn(&Case, &[u8], 
 /// "n + m where two runs are compared, m at least 1; their counts add."
 #[test]
 fn n_and_then_m_is_n_plus_m() {
-    for_each_run(gen::cases(11, 700), |case, map, run, before| {
+    for_each_run(gen::cases(&FULL, 11, 700), |case, map, run, before| {
         let mut whole = before.clone();
         let total = whole.run(case, map, &run.inputs, run.budget);
         if total.number < 30 {
@@ -225,7 +270,7 @@ fn n_and_then_m_is_n_plus_m() {
 /// machine is one, its instruction lies in the code, and the stack suffices.
 #[test]
 fn every_point_of_a_run_is_a_machine() {
-    for_each_run(gen::cases(12, 320), |case, map, run, before| {
+    for_each_run(gen::cases(&FULL, 12, 320), |case, map, run, before| {
         let mut whole = before.clone();
         let total = whole.run(case, map, &run.inputs, run.budget);
         if total.number < 30 {
@@ -255,7 +300,7 @@ fn every_point_of_a_run_is_a_machine() {
 /// The opcodes that an observer is told are those counted.
 #[test]
 fn an_observer_sees_the_steps_counted() {
-    for_each_run(gen::cases(13, 200), |case, map, run, mut before| {
+    for_each_run(gen::cases(&FULL, 13, 200), |case, map, run, mut before| {
         let mut steps = [0u64; 256];
         let buffers = Buffers {
             image: &case.image,
@@ -272,7 +317,7 @@ fn an_observer_sees_the_steps_counted() {
 /// "left as it was: all", whatever the refusal.
 #[test]
 fn a_refused_run_leaves_everything() {
-    for_each_run(gen::cases(14, 700), |case, map, run, before| {
+    for_each_run(gen::cases(&FULL, 14, 700), |case, map, run, before| {
         let mut after = before.clone();
         let answer = after.run(case, map, &run.inputs, run.budget);
         if answer.number < 30 {
@@ -285,7 +330,7 @@ fn a_refused_run_leaves_everything() {
 /// Refusals leave the map, but for 8, and start leaves the store.
 #[test]
 fn refused_loads_and_starts_leave_their_buffers() {
-    for case in gen::cases(15, 1000) {
+    for case in gen::cases(&FULL, 15, 1000) {
         let length = case.image.len();
         let mut map = vec![case.map_fill; case.map_length];
         match load(&case.image, &mut map) {

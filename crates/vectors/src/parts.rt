@@ -1,0 +1,52 @@
+// The first n elements of a buffer, and their two sums: from 1 on, each word x makes the first one (31 h + x) modulo 65,521 and the
+// second one (257 h + x) modulo 65,519.
+pub struct Sums {
+    pub first: u32,
+    pub second: u32,
+}
+
+pub fn bytes_of(all: &[u8], n: usize) -> &[u8] {
+    if n <= all.len() { &all[0..n] } else { all }
+}
+
+pub fn words_of(all: &[u16], n: usize) -> &[u16] {
+    if n <= all.len() { &all[0..n] } else { all }
+}
+
+fn begun() -> Sums {
+    Sums {
+        first: 1,
+        second: 1,
+    }
+}
+
+fn added(sums: Sums, word: u16) -> Sums {
+    let x = word as u32;
+    let first = (31 * (sums.first % 65521) + x) % 65521;
+    let second = (257 * (sums.second % 65519) + x) % 65519;
+    Sums { first, second }
+}
+
+fn wide(byte: u8) -> u16 {
+    byte as u16
+}
+
+pub fn sums_of_bytes(part: &[u8]) -> Sums {
+    let mut sums = begun();
+    let mut i: usize = 0;
+    while i < part.len() {
+        sums = added(sums, wide(part[i]));
+        i += 1;
+    }
+    sums
+}
+
+pub fn sums_of_words(part: &[u16]) -> Sums {
+    let mut sums = begun();
+    let mut i: usize = 0;
+    while i < part.len() {
+        sums = added(sums, part[i]);
+        i += 1;
+    }
+    sums
+}

@@ -21,6 +21,7 @@ pub fn refused_with(number: u16) -> Ran
     }
 }
 
+// The first refusal, of load, start or run, ends it.
 pub fn reading(
     image: &[u8],
     map: &mut [u8],

@@ -23,7 +23,7 @@ pub struct Ran {
     pub machine: Machine,
 }
 
-// Where the stepping loop stopped: the stop, how much of the budget was left, and the machine.
+// Where the stepping loop stopped: the stop, the count of steps, and the machine.
 struct Stopping {
     stop: Stop,
     count: u32,
@@ -79,6 +79,7 @@ fn steps(
     }
 }
 
+// Up to n steps. Refusals 1 to 6, 7, 12, 9, 10 and 11, in this order, leave everything as it was.
 pub fn run(
     machine: Machine,
     image: &[u8],

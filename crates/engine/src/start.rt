@@ -133,6 +133,7 @@ fn begin(image: &[u8], program: Program, store: &mut [u16]) -> Machine
     machine_at(entry as u16, end as u16, w as u16)
 }
 
+// Refusals 1 to 6 and 9 leave the store as it was, with a machine of zeros.
 pub fn start(image: &[u8], store: &mut [u16]) -> Started
     ensures { λ r. ⌜ begun r (now (store .exit)) ≡ startOf (now (image .entry)) (now (store .entry)) ⌝ }
 {

@@ -1,0 +1,132 @@
+//! Freshly generated cases on both sides: load, start and the list of runs, with all buffers and machines compared after each call.
+
+use crate::engine::{self, words, ANSWER_NUMBERS, MACHINE_WORDS};
+use crate::sides::{Compared, Sides};
+use second::case::Case;
+use second::gen;
+use std::collections::BTreeMap;
+
+/// What was compared.
+#[derive(Default)]
+pub struct Total {
+    pub cases: u64,
+    pub runs: u64,
+    pub steps: u64,
+    /// How often each number was answered by a run.
+    pub numbers: BTreeMap<u16, u64>,
+}
+
+impl Total {
+    fn case(&mut self, case: &Case) -> Compared<()> {
+        let mut sides = Sides::new(
+            &case.image,
+            vec![case.map_fill; case.map_length],
+            vec![case.store_fill; case.store_length],
+            case.outputs.clone(),
+        );
+        sides.load()?;
+        sides.start()?;
+        for (index, run) in case.runs.iter().enumerate() {
+            for &(offset, byte) in &run.map_patches {
+                sides.ours.map[usize::from(offset)] = byte;
+                sides.theirs.map[usize::from(offset)] = byte;
+            }
+            for &(address, word) in &run.store_patches {
+                sides.ours.store[usize::from(address)] = word;
+                sides.theirs.store[usize::from(address)] = word;
+            }
+            if let Some(machine) = run.machine {
+                sides.ours.machine = words(&machine);
+                sides.theirs.machine = machine;
+            }
+            let of = |error| format!("run {index}: {error}");
+            if index == 0 {
+                wrong_lengths(&sides, &run.inputs, run.budget).map_err(of)?;
+                far_module(&sides, &run.inputs, run.budget).map_err(of)?;
+            }
+            let (number, count) = sides.run(&run.inputs, run.budget).map_err(of)?;
+            self.runs += 1;
+            self.steps += u64::from(count);
+            *self.numbers.entry(number).or_default() += 1;
+        }
+        self.cases += 1;
+        Ok(())
+    }
+}
+
+/// A machine or an answer of a wrong length is answered with 20, and nothing is changed.
+fn wrong_lengths(sides: &Sides, inputs: &[u16], n: u32) -> Compared<()> {
+    const LENGTHS: [(usize, usize); 6] = [(0, 2), (23, 2), (25, 2), (24, 0), (24, 1), (24, 3)];
+    for (machine_words, answer_numbers) in LENGTHS {
+        let mut ours = sides.ours.clone();
+        let mut machine = vec![7; machine_words];
+        let mut answer = vec![7; answer_numbers];
+        let number = engine::run(
+            &mut machine,
+            &sides.image,
+            &ours.map,
+            &mut ours.store,
+            &mut ours.outputs,
+            inputs,
+            &mut answer,
+            n,
+        );
+        let mut numbers = vec![number];
+        if machine_words != MACHINE_WORDS {
+            numbers.push(engine::start(&sides.image, &mut ours.store, &mut machine));
+        }
+        let kept = machine.iter().all(|&word| word == 7)
+            && answer.iter().all(|&number| number == 7)
+            && ours.store == sides.ours.store
+            && ours.outputs == sides.ours.outputs;
+        if numbers.iter().any(|&number| number != 20) || !kept {
+            return Err(format!(
+                "{machine_words} words and {answer_numbers} numbers: answered {numbers:?}, all kept: {kept}"
+            ));
+        }
+    }
+    Ok(())
+}
+
+/// A module above 255 is refused as module 255 is, and the words stay.
+fn far_module(sides: &Sides, inputs: &[u16], n: u32) -> Compared<()> {
+    for module in [255, 256, 257, 65_535] {
+        let mut ours = sides.ours.clone();
+        ours.machine[0] = module;
+        let machine = ours.machine;
+        let answer = ours.run(&sides.image, inputs, n);
+        let mut theirs = sides.theirs.clone();
+        theirs.machine.module = 255;
+        let other = theirs.run(&sides.image, inputs, n);
+        let kept = ours.machine == machine
+            && ours.store == sides.ours.store
+            && ours.outputs == sides.ours.outputs;
+        if answer != (u16::from(other.number), [0; ANSWER_NUMBERS]) || !kept {
+            return Err(format!(
+                "module {module}: answered {answer:?}, all kept: {kept}"
+            ));
+        }
+    }
+    Ok(())
+}
+
+/// A case of a seed. Each kind of case recurs every 32 cases, so every other 32 are full ones.
+fn generated(seed: u64, index: u64) -> Case {
+    let scale = if index / 32 % 2 == 1 {
+        &gen::FULL
+    } else {
+        &gen::SMALL
+    };
+    gen::case(scale, seed, index)
+}
+
+/// Compares `count` cases; the first difference is an error that names its case.
+pub fn compare(count: u64, seed: u64) -> Compared<Total> {
+    let mut total = Total::default();
+    for index in 0..count {
+        total
+            .case(&generated(seed, index))
+            .map_err(|error| format!("case {index} of seed {seed}: {error}"))?;
+    }
+    Ok(total)
+}

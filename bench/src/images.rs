@@ -1,0 +1,318 @@
+//! Images to time: loops that run until their budget is spent, and long images. Octal literals are the paper's opcodes.
+
+use second::assemble::{encode, Source};
+use second::image::Procedure;
+
+/// A program that runs on for ever, and words to write into its store after start.
+pub struct Loop {
+    pub name: &'static str,
+    pub image: Vec<u8>,
+    pub patches: Vec<(u16, u16)>,
+}
+
+/// An image whose load is timed.
+pub struct Long {
+    pub name: &'static str,
+    pub image: Vec<u8>,
+}
+
+/// The base of the first module.
+const BASE: u16 = 128;
+
+fn procedure(entry: usize, parameters: u8, results: u8) -> Procedure {
+    Procedure {
+        entry: entry as u16,
+        parameters,
+        results,
+    }
+}
+
+/// Code that begins with S raised past 8 locals.
+struct Code(Vec<u8>);
+
+impl Code {
+    fn new() -> Code {
+        Code(vec![0o353, 8])
+    }
+
+    fn here(&self) -> usize {
+        self.0.len()
+    }
+
+    fn put(&mut self, bytes: &[u8]) -> &mut Code {
+        self.0.extend(bytes);
+        self
+    }
+
+    /// A jump back, by a byte, with this opcode.
+    fn back(&mut self, opcode: u8, target: usize) -> &mut Code {
+        let distance = self.here() + 1 - target;
+        self.put(&[
+            opcode,
+            u8::try_from(distance).expect("a jump back by a byte"),
+        ])
+    }
+
+    /// A jump forward with this opcode, over the code that `body` puts.
+    fn over(&mut self, opcode: u8, body: impl FnOnce(&mut Code)) -> &mut Code {
+        self.put(&[opcode, 0]);
+        let operand = self.here() - 1;
+        body(self);
+        self.0[operand] = u8::try_from(self.here() - operand).expect("a jump forward by a byte");
+        self
+    }
+}
+
+/// Code that repeats a body for ever.
+fn repeated(body: &[u8]) -> Vec<u8> {
+    let mut code = Code::new();
+    let top = code.here();
+    code.put(body).back(0o035, top);
+    code.0
+}
+
+/// A module of code with 8 words of data.
+fn with_data(code: Vec<u8>) -> Source {
+    Source {
+        data_size: 8,
+        code,
+        ..Source::default()
+    }
+}
+
+fn plain(name: &'static str, modules: &[Source]) -> Loop {
+    Loop {
+        name,
+        image: encode(modules),
+        patches: Vec::new(),
+    }
+}
+
+/// x = ((x + 3) * 5 - 7) shifted and turned, in local 4.
+fn arithmetic() -> Loop {
+    let body = [
+        0o044, 3, 0o270, 5, 0o272, 7, 0o271, 0o064, // + * -
+        0o044, 3, 0o275, 9, 0o274, 2, 0o276, 0o064, // rotated, remainder, shifted left
+        0o044, 0o045, 0o252, 0o065, // <
+        0o044, 15, 0o322, 0o066, // and
+    ];
+    plain("arithmetic", &[with_data(repeated(&body))])
+}
+
+/// Words of the frame, of this module, of another module, and by their address.
+fn loads_and_stores() -> Loop {
+    let body = [
+        0o044, 0o065, 0o045, 0o064, // L+4, L+5
+        0o103, 0o124, 0o104, 0o123, // G+3, G+4
+        0o042, 1, 4, 0o062, 1, 5, // of module 1
+        0o024, 4, 0o142, 0o066, // a+2
+        0o024, 4, 0o046, 0o163, // to c+3
+        0o040, 6, 0o060, 7, // by a byte operand
+    ];
+    plain(
+        "loads and stores",
+        &[with_data(repeated(&body)), with_data(vec![0o354])],
+    )
+}
+
+/// A function of two parameters and one result, called twice a turn.
+fn local_calls() -> Loop {
+    let mut code = repeated(&[1, 2, 0o361, 3, 0o360, 1, 0o064]);
+    let function = code.len();
+    code.extend([0o270, 0o354]);
+    let module = Source {
+        procedures: vec![procedure(0, 0, 0), procedure(function, 2, 1)],
+        ..with_data(code)
+    };
+    plain("local calls", &[module])
+}
+
+/// The same function, in another module.
+fn external_calls() -> Loop {
+    let main = with_data(repeated(&[1, 2, 0o355, 1, 1, 3, 0o355, 1, 1, 0o064]));
+    let function = Source {
+        procedures: vec![procedure(2, 0, 0), procedure(0, 2, 1)],
+        ..with_data(vec![0o270, 0o354, 0o354])
+    };
+    plain("external calls", &[main, function])
+}
+
+/// Bytes of a string at G+3, set and read.
+fn bytes() -> Loop {
+    let body = [
+        0o025, 3, 5, 0o044, 0o225, // byte 5 becomes x
+        0o025, 3, 2, 0o044, 0o225, // byte 2 becomes x
+        0o025, 3, 5, 0o205, 1, 0o270, 0o064, // x = byte 5 + 1
+    ];
+    plain("bytes", &[with_data(repeated(&body))])
+}
+
+fn signed_arithmetic() -> Loop {
+    let body = [
+        0o044, 3, 0o330, 5, 0o332, 7, 0o331, 4, 0o333, // + * - /
+        0o317, 0o316, 9, 0o274, 0o064, // negated, absolute, remainder
+        0o044, 5, 0o312, 0o065, 0o044, 5, 0o315, 0o066, // <, >=
+    ];
+    plain("signed arithmetic", &[with_data(repeated(&body))])
+}
+
+/// Two processes that transfer to each other, with `words` on the stack, two of them the addresses. Word G+3 holds the one that
+/// waits. The second one's record and stack are written into the store.
+fn transfers(name: &'static str, words: u16) -> Loop {
+    const RECORD: u16 = 2000;
+    const STACK: u16 = 2100;
+    let waiting = words - 2;
+    let mut code = vec![1; usize::from(waiting)];
+    let top = code.len();
+    code.extend([0o025, 3, 0o025, 3, 0o256, 0]);
+    let mut code = Code(code);
+    code.back(0o035, top);
+    let mut patches = vec![(BASE + 3, RECORD)];
+    let end = STACK + waiting;
+    patches.extend((STACK..end).map(|address| (address, address)));
+    patches.push((end, waiting));
+    let record = [BASE, STACK, top as u16 + 6, 0, end + 1, 3000];
+    patches.extend((RECORD..).zip(record));
+    Loop {
+        name,
+        image: encode(&[with_data(code.0)]),
+        patches,
+    }
+}
+
+fn input_and_output() -> Loop {
+    let body = [
+        0o025, 3, 5, 0o240, // word G+3 becomes input 5
+        6, 0o103, 0o241, // output 6 becomes it
+        7, 0o044, 0o241, 0o044, 1, 0o270, 0o064, // output 7 becomes x, and x + 1
+    ];
+    plain("input and output", &[with_data(repeated(&body))])
+}
+
+/// The primes below 1,000, again and again: flags from G+3 on, i, j and the flags' address in locals 4, 5 and 6.
+fn sieve() -> Loop {
+    const BELOW: u16 = 1_000;
+    let [high, low] = BELOW.to_be_bytes();
+    let mut code = Code::new();
+    code.put(&[0o025, 3, 0o066]);
+    let again = code.here();
+    code.put(&[0, 0o064]);
+    let clear = code.here();
+    code.put(&[0o046, 0o044, 0, 0o226, 0o044, 1, 0o270, 0o064]);
+    code.put(&[0o044, 0o022, high, low, 0o255])
+        .back(0o034, clear);
+    code.put(&[2, 0o064]);
+    let next = code.here();
+    code.put(&[0o046, 0o044, 0o206, 0o327]);
+    code.over(0o032, |code| {
+        code.put(&[0o044, 0o044, 0o270, 0o065]);
+        let strike = code.here();
+        code.put(&[0o045, 0o022, high, low, 0o252]);
+        code.over(0o032, |code| {
+            code.put(&[0o046, 0o045, 1, 0o226, 0o045, 0o044, 0o270, 0o065]);
+            code.back(0o035, strike);
+        });
+    });
+    code.put(&[0o044, 1, 0o270, 0o064]);
+    code.put(&[0o044, 0o022, high, low, 0o255])
+        .back(0o034, next);
+    code.back(0o035, again);
+    let module = Source {
+        data_size: BELOW,
+        code: code.0,
+        ..Source::default()
+    };
+    plain("sieve", &[module])
+}
+
+pub fn loops() -> Vec<Loop> {
+    vec![
+        arithmetic(),
+        loads_and_stores(),
+        local_calls(),
+        external_calls(),
+        bytes(),
+        signed_arithmetic(),
+        transfers("transfers, 2 words", 2),
+        transfers("transfers, 16 words", 16),
+        input_and_output(),
+        sieve(),
+    ]
+}
+
+/// Two modules of procedures with statements, a loop, a test and two calls each: about 60 KB.
+fn ordinary() -> Long {
+    const PROCEDURES: u8 = 240;
+    const MOST_BYTES: usize = 30_000;
+    let module = |other: u8| {
+        let mut code = Code(Vec::new());
+        let mut procedures = Vec::new();
+        for index in 0..PROCEDURES {
+            procedures.push(procedure(code.here(), 0, 0));
+            code.put(&[0o353, 8]);
+            let top = code.here();
+            code.put(&[0o044, 1, 0o270, 0o064, 0o103, 0o044, 0o270, 0o123]);
+            code.put(&[0o044, 0o022, 1, 0, 0o252]);
+            code.over(0o032, |code| {
+                code.put(&[0o045, 3, 0o330, 0o065, 0o360, index, 0o355, other, index]);
+            });
+            code.put(&[0o044, 0o020, 100, 0o255]).back(0o034, top);
+            for local in 0..18 {
+                code.put(&[0o044 + local % 8, 2, 0o272, 0o064 + local % 8]);
+            }
+            code.put(&[0o354]);
+        }
+        assert!(code.here() <= MOST_BYTES);
+        Source {
+            procedures,
+            ..with_data(code.0)
+        }
+    };
+    Long {
+        name: "ordinary image",
+        image: encode(&[module(1), module(0)]),
+    }
+}
+
+/// Two modules of the same code, of at most 30,000 bytes each.
+fn twice(name: &'static str, code: Vec<u8>) -> Long {
+    let module = Source::plain(&code);
+    Long {
+        name,
+        image: encode(&[module.clone(), module]),
+    }
+}
+
+/// Statements without a jump.
+fn straight() -> Long {
+    let mut code = [0o044, 1, 0o270, 0o064].repeat(7_400);
+    code.push(0o354);
+    twice("straight-line code", code)
+}
+
+/// A jump to the last of many jumps, each of which leads back to the one before it.
+fn backward_jumps() -> Long {
+    const JUMPS: u16 = 14_800;
+    let [high, low] = (2 * JUMPS + 1).to_be_bytes();
+    let mut code = vec![0o031, high, low, 0o354, 0o035, 2];
+    code.extend([0o035, 3].repeat(usize::from(JUMPS) - 1));
+    twice("backward jumps", code)
+}
+
+/// Tests that lead on, or to a place far away.
+fn forks() -> Long {
+    const FORKS: u32 = 7_400;
+    let mut code = Vec::new();
+    for index in 0..FORKS {
+        let target = 4 * (index * 4_099 % FORKS) as i32;
+        let operand = code.len() as i32 + 2;
+        let [high, low] = ((target - operand) as i16).to_be_bytes();
+        code.extend([1, 0o030, high, low]);
+    }
+    code.push(0o354);
+    twice("forks to many targets", code)
+}
+
+pub fn long_images() -> Vec<Long> {
+    vec![ordinary(), straight(), backward_jumps(), forks()]
+}

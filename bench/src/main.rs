@@ -1,0 +1,46 @@
+//! `bench`: both sides timed. `bench --compare N [SEED]`: N generated cases compared. bench/run builds and calls it.
+
+mod compare;
+mod engine;
+mod images;
+mod sides;
+mod speed;
+
+use std::process::ExitCode;
+
+const USAGE: &str = "usage: bench | bench --compare N [SEED]";
+
+fn number(text: &str) -> Result<u64, String> {
+    text.parse()
+        .map_err(|_| format!("{text} is no number\n{USAGE}"))
+}
+
+fn compare(count: &str, seed: &str) -> Result<(), String> {
+    let total = compare::compare(number(count)?, number(seed)?)?;
+    println!(
+        "{} cases, {} runs, {} steps: no difference",
+        total.cases, total.runs, total.steps
+    );
+    for (number, times) in &total.numbers {
+        println!("run answered {number:2}: {times}");
+    }
+    Ok(())
+}
+
+fn main() -> ExitCode {
+    let arguments: Vec<String> = std::env::args().skip(1).collect();
+    let arguments: Vec<&str> = arguments.iter().map(String::as_str).collect();
+    let done = match arguments[..] {
+        [] => speed::speed(),
+        ["--compare", count] => compare(count, "1"),
+        ["--compare", count, seed] => compare(count, seed),
+        _ => Err(USAGE.into()),
+    };
+    match done {
+        Ok(()) => ExitCode::SUCCESS,
+        Err(error) => {
+            eprintln!("bench: {error}");
+            ExitCode::FAILURE
+        }
+    }
+}

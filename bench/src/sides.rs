@@ -1,0 +1,146 @@
+//! The same calls on both sides, each with buffers of its own, compared after every call.
+
+use crate::engine::{self, words, ANSWER_NUMBERS, MACHINE_WORDS};
+use second::Machine;
+
+/// The buffers and the machine of a program on both sides.
+#[derive(Clone)]
+pub struct Sides {
+    pub image: Vec<u8>,
+    pub ours: Ours,
+    pub theirs: Theirs,
+}
+
+/// The proved engine's.
+#[derive(Clone)]
+pub struct Ours {
+    pub map: Vec<u8>,
+    pub store: Vec<u16>,
+    pub outputs: Vec<u16>,
+    pub machine: [u16; MACHINE_WORDS],
+}
+
+/// The second interpreter's.
+#[derive(Clone)]
+pub struct Theirs {
+    pub map: Vec<u8>,
+    pub store: Vec<u16>,
+    pub outputs: Vec<u16>,
+    pub machine: Machine,
+}
+
+/// The first difference, in words.
+pub type Compared<T> = Result<T, String>;
+
+fn same<T: PartialEq + std::fmt::Debug>(what: &str, ours: T, theirs: T) -> Compared<()> {
+    if ours == theirs {
+        return Ok(());
+    }
+    Err(format!(
+        "{what}: the proved engine has {ours:?}, the second interpreter {theirs:?}"
+    ))
+}
+
+/// Long lists: says the first place that differs.
+fn same_list<T: PartialEq + Copy + std::fmt::Debug>(
+    what: &str,
+    ours: &[T],
+    theirs: &[T],
+) -> Compared<()> {
+    same(&format!("length of {what}"), ours.len(), theirs.len())?;
+    match ours.iter().zip(theirs).position(|(a, b)| a != b) {
+        None => Ok(()),
+        Some(place) => same(&format!("{what} at {place}"), ours[place], theirs[place]),
+    }
+}
+
+impl Sides {
+    pub fn new(image: &[u8], map: Vec<u8>, store: Vec<u16>, outputs: Vec<u16>) -> Sides {
+        Sides {
+            image: image.to_vec(),
+            ours: Ours {
+                map: map.clone(),
+                store: store.clone(),
+                outputs: outputs.clone(),
+                machine: [0; MACHINE_WORDS],
+            },
+            theirs: Theirs {
+                map,
+                store,
+                outputs,
+                machine: Machine::default(),
+            },
+        }
+    }
+
+    /// All buffers and the machine.
+    fn compare(&self) -> Compared<()> {
+        let Sides { ours, theirs, .. } = self;
+        same_list(
+            "the machine's words",
+            &ours.machine,
+            &words(&theirs.machine),
+        )?;
+        same_list("the outputs", &ours.outputs, &theirs.outputs)?;
+        same_list("the map", &ours.map, &theirs.map)?;
+        same_list("the store", &ours.store, &theirs.store)
+    }
+
+    pub fn load(&mut self) -> Compared<u16> {
+        let number = engine::load(&self.image, &mut self.ours.map);
+        let other = second::load(&self.image, &mut self.theirs.map);
+        same("load", number, u16::from(other))?;
+        self.compare()?;
+        Ok(number)
+    }
+
+    pub fn start(&mut self) -> Compared<u16> {
+        // every word is written, whatever stood there
+        self.ours.machine = [0xABCD; MACHINE_WORDS];
+        let number = engine::start(&self.image, &mut self.ours.store, &mut self.ours.machine);
+        let (other, machine) = second::start(&self.image, &mut self.theirs.store);
+        self.theirs.machine = machine;
+        same("start", number, u16::from(other))?;
+        self.compare()?;
+        Ok(number)
+    }
+
+    /// The number, and the count of steps.
+    pub fn run(&mut self, inputs: &[u16], n: u32) -> Compared<(u16, u32)> {
+        let (number, answer) = self.ours.run(&self.image, inputs, n);
+        let other = self.theirs.run(&self.image, inputs, n);
+        same("run", number, u16::from(other.number))?;
+        same("count", answer[0], other.count)?;
+        same("code", answer[1], u32::from(other.code))?;
+        self.compare()?;
+        Ok((number, answer[0]))
+    }
+}
+
+impl Ours {
+    pub fn run(&mut self, image: &[u8], inputs: &[u16], n: u32) -> (u16, [u32; ANSWER_NUMBERS]) {
+        let mut answer = [0xABCD; ANSWER_NUMBERS];
+        let Ours {
+            map,
+            store,
+            outputs,
+            machine,
+        } = self;
+        let number = engine::run(machine, image, map, store, outputs, inputs, &mut answer, n);
+        (number, answer)
+    }
+}
+
+impl Theirs {
+    pub fn run(&mut self, image: &[u8], inputs: &[u16], n: u32) -> second::RunAnswer {
+        let Theirs {
+            map,
+            store,
+            outputs,
+            machine,
+        } = self;
+        let answer = second::run(*machine, image, map, store, outputs, inputs, n);
+        self.machine = answer.machine;
+        answer
+    }
+}

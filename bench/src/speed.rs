@@ -1,0 +1,123 @@
+//! Times both sides in turn, in one process, after their results were compared.
+
+use crate::images::{self, Long, Loop};
+use crate::sides::{Compared, Sides};
+use std::time::Instant;
+
+const WORDS: usize = 4_096;
+const INPUTS: [u16; 16] = [3; 16];
+/// Steps of a timed run, and of the compared one.
+const STEPS: u32 = 1_000_000;
+const ROUNDS: u32 = 40;
+
+/// The least times in seconds of two works, done in turn.
+fn least_times(mut ours: impl FnMut(), mut theirs: impl FnMut()) -> [f64; 2] {
+    fn time(work: &mut impl FnMut()) -> f64 {
+        let begin = Instant::now();
+        work();
+        begin.elapsed().as_secs_f64()
+    }
+    let mut least = [f64::INFINITY; 2];
+    for _ in 0..ROUNDS {
+        least[0] = least[0].min(time(&mut ours));
+        least[1] = least[1].min(time(&mut theirs));
+    }
+    least
+}
+
+fn line(name: &str, unit: &str, [ours, theirs]: [f64; 2], ratio: f64) {
+    println!("{name:24} {ours:9.2} {theirs:9.2} {unit:8} {ratio:6.2}");
+}
+
+/// An image that both sides accept and start, with the words of the patches written.
+fn begun(image: &[u8], patches: &[(u16, u16)]) -> Compared<Sides> {
+    let mut sides = Sides::new(image, vec![0; image.len()], vec![0; WORDS], vec![0; 16]);
+    let numbers = (sides.load()?, sides.start()?);
+    if numbers != (0, 0) {
+        return Err(format!("load and start answer {numbers:?}"));
+    }
+    for &(address, word) in patches {
+        sides.ours.store[usize::from(address)] = word;
+        sides.theirs.store[usize::from(address)] = word;
+    }
+    Ok(sides)
+}
+
+/// Runs n steps on both sides, compares, and times them.
+fn time_steps(sides: &mut Sides, n: u32) -> Compared<[f64; 2]> {
+    let (number, count) = sides.run(&INPUTS, n)?;
+    if (number, count) != (30, n) {
+        return Err(format!("the run stops with {number} after {count} steps"));
+    }
+    let Sides {
+        image,
+        ours,
+        theirs,
+    } = sides;
+    Ok(least_times(
+        || assert_eq!(ours.run(image, &INPUTS, n).0, 30),
+        || assert_eq!(theirs.run(image, &INPUTS, n).number, 30),
+    ))
+}
+
+fn time_loop(one: &Loop) -> Compared<()> {
+    let mut sides = begun(&one.image, &one.patches)?;
+    let times = time_steps(&mut sides, STEPS)?;
+    let each = times.map(|time| time * 1e9 / f64::from(STEPS));
+    line(one.name, "ns/step", each, each[0] / each[1]);
+    Ok(())
+}
+
+fn time_load(one: &Long) -> Compared<()> {
+    let mut sides = begun(&one.image, &[])?;
+    let Sides {
+        image,
+        ours,
+        theirs,
+    } = &mut sides;
+    let times = least_times(
+        || assert_eq!(crate::engine::load(image, &mut ours.map), 0),
+        || assert_eq!(second::load(image, &mut theirs.map), 0),
+    );
+    let speed = times.map(|time| image.len() as f64 / time / 1e6);
+    line(one.name, "MB/s", speed, times[0] / times[1]);
+    Ok(())
+}
+
+fn time_tests(one: &Long) -> Compared<()> {
+    let mut sides = begun(&one.image, &[])?;
+    let times = time_steps(&mut sides, 1)?;
+    line(
+        one.name,
+        "us",
+        times.map(|time| time * 1e6),
+        times[0] / times[1],
+    );
+    Ok(())
+}
+
+/// Prints a line for each image; the first difference between the sides is an error.
+pub fn speed() -> Compared<()> {
+    let of = |name: &str| {
+        let name = name.to_string();
+        move |error: String| format!("{name}: {error}")
+    };
+    let long = images::long_images();
+    println!(
+        "{:24} {:>9} {:>9} {:8} {:>6}",
+        "", "proved", "second", "", "ratio"
+    );
+    println!("steps (ratio of times: below 1 the proved engine is faster)");
+    for one in images::loops() {
+        time_loop(&one).map_err(of(one.name))?;
+    }
+    println!("load");
+    for one in &long {
+        time_load(one).map_err(of(one.name))?;
+    }
+    println!("run with n = 1: the tests of the image and the map");
+    for one in &long {
+        time_tests(one).map_err(of(one.name))?;
+    }
+    Ok(())
+}

@@ -1,0 +1,60 @@
+-- What the exported start and run answer and leave in the buffers that they are lent, from the definition's startOf and runOf.
+use Prim.Native.Nat.{ℕ}
+use mathlib.Core.List.{List, [], _∷_}
+use lib.ListN.{length}
+use lib.Dec.{eqb}
+use Rattle.mcode.specs.Word.{pick, and}
+use Rattle.mcode.specs.Machine.{state}
+use Rattle.mcode.specs.Run.{Started, RunLeft, startOf, runOf, endingNumber, endingCode}
+use Rattle.mcode.specs.declared.Machine.{Machine}
+use Rattle.mcode.specs.declared.Ending.{Ending}
+use Rattle.mcode.specs.declared.Ending.the-variants.{Refused, Stopped}
+use Rattle.capi.specs.Words.{wordsOf, machineOf}
+
+-- the answer to a machine that is not 24 words, or an answer that is not 2 numbers: nothing is changed
+abbrev pub wrongLength : ℕ
+wrongLength = 20
+
+-- ---- start
+
+pub record StartLeft : Type 0 where
+  pub number : ℕ
+  pub store : List ℕ
+  pub machine : List ℕ
+
+abbrev pub startLeft : ℕ → List ℕ → List ℕ → StartLeft
+startLeft number store machine = record { number = number; store = store; machine = machine }
+
+abbrev pub startSays : Started → StartLeft
+startSays s = startLeft (s .number) (s .store) (wordsOf (s .machine))
+
+unfoldable pub startWords : List ℕ → List ℕ → List ℕ → StartLeft
+startWords image store machine = pick (eqb (length machine) 24) (startSays (startOf image store)) (startLeft wrongLength store machine)
+
+-- ---- run
+
+pub record RunAnswer : Type 0 where
+  pub number : ℕ
+  pub machine : List ℕ
+  pub store : List ℕ
+  pub outputs : List ℕ
+  pub answer : List ℕ
+
+abbrev pub runLeft : ℕ → List ℕ → List ℕ → List ℕ → List ℕ → RunAnswer
+runLeft number machine store outputs answer = record { number = number; machine = machine; store = store; outputs = outputs; answer = answer }
+
+-- a refusal leaves the words of the machine as they were
+abbrev pub wordsLeft : Ending → List ℕ → Machine → List ℕ
+wordsLeft (Refused k) words m = words
+wordsLeft (Stopped k) words m = wordsOf m
+
+-- the number, the words, and the count and the code of what a run answers and leaves
+abbrev pub runSays : List ℕ → RunLeft → RunAnswer
+runSays words e =
+    runLeft (endingNumber (e .ending)) (wordsLeft (e .ending) words (e .state .machine)) (e .state .store) (e .state .outputs) (e .count ∷ endingCode (e .ending) ∷ [])
+
+unfoldable pub runWords : List ℕ → List ℕ → List ℕ → ℕ → List ℕ → List ℕ → List ℕ → List ℕ → RunAnswer
+runWords image map inputs n machine store outputs answer =
+    pick (and (eqb (length machine) 24) (eqb (length answer) 2))
+    (runSays machine (runOf image map inputs n (state (machineOf machine) store outputs)))
+    (runLeft wrongLength machine store outputs answer)

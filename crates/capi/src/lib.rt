@@ -1,0 +1,72 @@
+// The engine for C and for other languages: load, start and run over plain slices. A slice passes as a pointer and a length in
+// elements (include/cembuxola.h). Nothing is asked of the lengths: a buffer of a wrong length is answered with a number.
+use crate::words::pack;
+use crate::words::put_answer;
+use crate::words::unpack;
+use mcode::Ending;
+ghost use mathlib.Core.Path.{_≡_};
+ghost use Rattle.mcode.specs.Run.{Loads};
+ghost use Rattle.capi.specs.Answers.{startLeft, startWords, runLeft, runWords};
+
+mod words;
+
+// The number of the refusal, 1 to 8, or 0.
+#[no_mangle]
+pub extern "C" fn cembuxola_load(image: &[u8], map: &mut [u8]) -> u16
+    ensures { λ r. ⌜ Loads (now (image .entry)) (now (map .entry)) r (now (map .exit)) ⌝ }
+{
+    engine::load::load(image, map)
+}
+
+// The number of the refusal, 1 to 6 or 9, or 0, and the machine's words: zeros where start refuses. 20 where the machine is not 24
+// words, and then nothing is changed.
+#[no_mangle]
+pub extern "C" fn cembuxola_start(image: &[u8], store: &mut [u16], machine: &mut [u16]) -> u16
+    ensures { λ r. ⌜ startLeft r (now (store .exit)) (now (machine .exit)) ≡ startWords (now (image .entry)) (now (store .entry)) (now (machine .entry)) ⌝ }
+{
+    if machine.len() != 24 {
+        return 20;
+    }
+    let started = engine::start::start(image, store);
+    let first = started.machine;
+    pack(machine, first);
+    started.number
+}
+
+// The number of the refusal, 1 to 7 or 9 to 12, or of the stop, 30 to 40; the count and the code in answer. The machine's words
+// stay as they were where run refuses. 20 where the machine is not 24 words or the answer not 2 numbers, and then nothing is changed.
+#[no_mangle]
+pub extern "C" fn cembuxola_run(
+    machine: &mut [u16],
+    image: &[u8],
+    map: &[u8],
+    store: &mut [u16],
+    outputs: &mut [u16],
+    inputs: &[u16],
+    answer: &mut [u32],
+    n: u32,
+) -> u16
+    ensures { λ r. ⌜ runLeft r (now (machine .exit)) (now (store .exit)) (now (outputs .exit)) (now (answer .exit)) ≡ runWords (now (image .entry)) (now (map .entry)) (now (inputs .entry)) n (now (machine .entry)) (now (store .entry)) (now (outputs .entry)) (now (answer .entry)) ⌝ }
+{
+    if machine.len() != 24 {
+        return 20;
+    }
+    if answer.len() != 2 {
+        return 20;
+    }
+    let before = unpack(machine);
+    let ran = engine::run::run(before, image, map, store, outputs, inputs, n);
+    let ending = ran.ending;
+    match ending {
+        Ending::Refused(number) => {
+            put_answer(answer, ran.count, 0);
+            number
+        }
+        Ending::Stopped(stop) => {
+            let after = ran.machine;
+            pack(machine, after);
+            put_answer(answer, ran.count, mcode::stop_code(stop));
+            mcode::stop_number(stop)
+        }
+    }
+}

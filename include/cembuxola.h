@@ -1,0 +1,114 @@
+/* Cembuxola, a proved M-code engine, for C.
+ *
+ * Link with target/staticlib/libcapi.a, which `rt staticlib capi` writes (x86-64). The functions allocate nothing, keep nothing
+ * between calls and write only to the buffers named below, so any number of machines may run side by side, in threads too.
+ *
+ * Each buffer passes as a pointer, then its length in ELEMENTS: bytes of an image or a map, words of a store, a machine, inputs or
+ * outputs, numbers of an answer. The caller keeps these rules, which no function can test:
+ *   - a pointer is not NULL, also where the length is 0, is aligned for its elements, and that many elements stand there;
+ *   - a buffer that a function writes overlaps no other buffer of the call, and nobody else reads or writes it meanwhile;
+ *   - nobody writes a buffer that a function reads meanwhile.
+ * Every content and every length is answered with a number: nothing else is asked of the caller. What each function answers, and what
+ * it leaves in every buffer, is proved equal to what the definition says (crates/capi/specs, crates/mcode/specs).
+ *
+ * The machine is CEMBUXOLA_MACHINE_WORDS words:
+ *   word 0      module, where the machine stands
+ *   word 1      pc, the position in that module's code, in bytes
+ *   word 2      depth, the words on the expression stack, 0 to 16
+ *   word 3      P, the process register
+ *   word 4      L, the local frame
+ *   word 5      S, the stack pointer
+ *   word 6      H, the stack limit
+ *   word 7      M, the mask
+ *   words 8-23  the expression stack, the bottom first; zeros above the depth
+ *
+ * The answer of a run is CEMBUXOLA_ANSWER_NUMBERS numbers:
+ *   number 0    count, the steps that were done; the stopping instruction is not counted
+ *   number 1    code, the program's own code (0 to 65,535) at stop 40, else 0
+ * A refused run answers count 0 and code 0.
+ */
+#ifndef CEMBUXOLA_H
+#define CEMBUXOLA_H
+
+#include <stddef.h>
+#include <stdint.h>
+
+#ifdef __cplusplus
+extern "C" {
+#endif
+
+#define CEMBUXOLA_MACHINE_WORDS 24
+#define CEMBUXOLA_ANSWER_NUMBERS 2
+/* The inputs and the outputs of a run. */
+#define CEMBUXOLA_CHANNELS 16
+
+/* What load and start answer where they accept. */
+#define CEMBUXOLA_ACCEPTED 0
+
+/* Refusals. Load, start and run each read the image first, so any of them may answer 1 to 6. Of those that hold, the first in this
+ * order is answered: 1, 2, then 3, 5 and 6 as the image is read, 4; then load 7, 8; start 9; run 7, 12, 9, 10, 11. */
+enum {
+    CEMBUXOLA_IMAGE_SIZE = 1,     /* the image has 0 or over 65,535 bytes */
+    CEMBUXOLA_MODULE_COUNT = 2,   /* the module count is 0 or over 32 */
+    CEMBUXOLA_IMAGE_ENDS = 3,     /* the image ends inside a part */
+    CEMBUXOLA_BYTES_AFTER = 4,    /* bytes follow the last module */
+    CEMBUXOLA_BIT_MAP = 5,        /* one of the bits 3 to 7 of a bit map stands */
+    CEMBUXOLA_FIELD = 6,          /* a field is out of range */
+    CEMBUXOLA_MAP_SHORT = 7,      /* the map is shorter than the image */
+    CEMBUXOLA_NO_DEPTHS = 8,      /* no depths fit the code */
+    CEMBUXOLA_STORE_SIZE = 9,     /* the store has too few words for the image, or over 65,535 */
+    CEMBUXOLA_CHANNEL_COUNT = 10, /* the inputs or the outputs are not 16 words */
+    CEMBUXOLA_NOT_A_MACHINE = 11, /* the words are no machine that can stand there */
+    CEMBUXOLA_MAP_UNFIT = 12,     /* the map does not fit the image */
+    CEMBUXOLA_WRONG_LENGTH = 20   /* the machine is not 24 words, or the answer not 2 numbers; tested before all else */
+};
+
+/* Stops. A trap and an end leave everything as it was before their instruction, at which the machine stands. */
+enum {
+    CEMBUXOLA_SPENT = 30,        /* all n steps are done */
+    CEMBUXOLA_ENDED = 31,        /* the program has ended */
+    CEMBUXOLA_ADDRESS = 32,      /* trap: an address not below the store's length */
+    CEMBUXOLA_STACK_LIMIT = 33,  /* trap: the stack would pass H */
+    CEMBUXOLA_RETURN_MARK = 34,  /* trap: no place to return to */
+    CEMBUXOLA_PROCESS = 35,      /* trap: no process to transfer to */
+    CEMBUXOLA_DIVISOR = 36,      /* trap: a divisor of 0 */
+    CEMBUXOLA_SIGNED_RANGE = 37, /* trap: a result outside -32,768 to 32,767 */
+    CEMBUXOLA_CHECK = 38,        /* trap: a value outside its limits */
+    CEMBUXOLA_CHANNEL = 39,      /* trap: a channel above 15 */
+    CEMBUXOLA_PROGRAM = 40       /* trap by the program, with its code */
+};
+
+/* Tests an image and fills its map: one byte an image byte, the depth of the expression stack at each position that can be reached,
+ * FF hex elsewhere. Answers 0, or a refusal 1 to 8.
+ *   image  read
+ *   map    as long as the image or longer. 0: filled over the image's length. 8: FF hex over the image's length. Every other refusal
+ *          leaves it as it was. Bytes past the image's length are never written. */
+uint16_t cembuxola_load(const uint8_t *image, size_t image_length, uint8_t *map, size_t map_length);
+
+/* Clears the store and makes the machine that stands at procedure 0 of module 0. Answers 0, or a refusal 1 to 6, 9 or 20.
+ *   image    read
+ *   store    W words, of the caller's choice. 0: cleared and set. Every refusal leaves it as it was.
+ *   machine  CEMBUXOLA_MACHINE_WORDS words, written: the machine at 0, zeros at 1 to 6 and 9. 20 leaves it as it was. */
+uint16_t cembuxola_start(const uint8_t *image, size_t image_length, uint16_t *store, size_t store_length, uint16_t *machine,
+                         size_t machine_length);
+
+/* Makes at most n steps. Answers a stop 30 to 40, or a refusal 1 to 7, 9 to 12 or 20. It believes nothing that it is handed: the image,
+ * the map and the machine are tested in every call.
+ *   machine  CEMBUXOLA_MACHINE_WORDS words, from start or from an earlier run. A stop: the machine where it stopped. Every refusal
+ *            leaves it as it was. A module above 255 is no loaded module, as is any that the image does not have (11).
+ *   image    read
+ *   map      read; load's, or another that fits
+ *   store    read and written. Every refusal leaves it as it was.
+ *   outputs  CEMBUXOLA_CHANNELS words, the current value of each output. Every refusal leaves them as they were.
+ *   inputs   CEMBUXOLA_CHANNELS words, read
+ *   answer   CEMBUXOLA_ANSWER_NUMBERS numbers, written: count and code. 20 leaves them as they were.
+ *   n        the most steps, 0 to 4,294,967,295 */
+uint16_t cembuxola_run(uint16_t *machine, size_t machine_length, const uint8_t *image, size_t image_length, const uint8_t *map,
+                       size_t map_length, uint16_t *store, size_t store_length, uint16_t *outputs, size_t outputs_length,
+                       const uint16_t *inputs, size_t inputs_length, uint32_t *answer, size_t answer_length, uint32_t n);
+
+#ifdef __cplusplus
+}
+#endif
+
+#endif

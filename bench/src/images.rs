@@ -257,7 +257,7 @@ fn ordinary() -> Long {
                 code.put(&[0o045, 3, 0o330, 0o065, 0o360, index, 0o355, other, index]);
             });
             code.put(&[0o044, 0o020, 100, 0o255]).back(0o034, top);
-            for local in 0..18 {
+            for local in 0..22 {
                 code.put(&[0o044 + local % 8, 2, 0o272, 0o064 + local % 8]);
             }
             code.put(&[0o354]);

@@ -93,8 +93,8 @@ impl fmt::Display for Checksum {
 #[derive(Clone, Debug, PartialEq, Eq)]
 pub struct Outcome {
     pub load: u8,
-    /// Of the whole map after load.
-    pub map: Checksum,
+    /// The whole map after load.
+    pub map: Vec<u8>,
     pub start: u8,
     /// Of the whole store after start.
     pub store: Checksum,
@@ -115,12 +115,11 @@ pub fn replay<O: Observer>(case: &Case, observer: &mut O) -> Outcome {
     let image = &case.image;
     let mut map = vec![case.map_fill; case.map_length];
     let load = api::load(image, &mut map);
-    let map_sum = Checksum::of(map.iter().map(|&byte| u16::from(byte)));
     let mut store = vec![case.store_fill; case.store_length];
     let (start, first_machine) = api::start(image, &mut store);
     let mut outcome = Outcome {
         load,
-        map: map_sum,
+        map: map.clone(),
         start,
         store: Checksum::of(store.iter().copied()),
         machine: first_machine,
@@ -179,14 +178,26 @@ struct MachineText<'a>(&'a Machine);
 
 impl fmt::Display for MachineText<'_> {
     fn fmt(&self, f: &mut fmt::Formatter) -> fmt::Result {
-        write!(f, "machine")?;
-        registers(self.0)
-            .iter()
-            .try_for_each(|word| write!(f, " {word}"))?;
-        write!(f, " stack")?;
-        stack(self.0)
-            .iter()
-            .try_for_each(|word| write!(f, " {word}"))
+        let (registers, stack) = (registers(self.0), stack(self.0));
+        write!(f, "machine{} stack{}", Words(&registers), Words(stack))
+    }
+}
+
+/// Bytes in hex, two digits each.
+struct Hex<'a>(&'a [u8]);
+
+impl fmt::Display for Hex<'_> {
+    fn fmt(&self, f: &mut fmt::Formatter) -> fmt::Result {
+        self.0.iter().try_for_each(|byte| write!(f, "{byte:02x}"))
+    }
+}
+
+/// Each word after a blank.
+struct Words<'a>(&'a [u16]);
+
+impl fmt::Display for Words<'_> {
+    fn fmt(&self, f: &mut fmt::Formatter) -> fmt::Result {
+        self.0.iter().try_for_each(|word| write!(f, " {word}"))
     }
 }
 
@@ -197,7 +208,7 @@ impl fmt::Display for Outcome {
             f,
             "load {} map {} start {} store {} {}",
             self.load,
-            self.map,
+            Hex(&self.map),
             self.start,
             self.store,
             MachineText(&self.machine),
@@ -206,12 +217,12 @@ impl fmt::Display for Outcome {
             let answer = &run.answer;
             writeln!(
                 f,
-                "run {} code {} count {} {} outputs {} store {}",
+                "run {} code {} count {} {} outputs{} store {}",
                 answer.number,
                 answer.code,
                 answer.count,
                 MachineText(&answer.machine),
-                Checksum::of(run.outputs.iter().copied()),
+                Words(&run.outputs),
                 run.store,
             )?;
         }

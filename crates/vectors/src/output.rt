@@ -40,6 +40,34 @@ pub fn put_word(text: &mut [u8; 4096], at: usize, n: u16) -> usize {
     put_number(text, at, n as u64)
 }
 
+// Each word after a blank.
+pub fn put_words(text: &mut [u8; 4096], at: usize, words: &[u16]) -> usize {
+    let mut next = at;
+    let mut i: usize = 0;
+    while i < words.len() {
+        next = put_word(text, next, words[i]);
+        i += 1;
+    }
+    next
+}
+
+fn put_byte(text: &mut [u8; 4096], at: usize, byte: u8) -> usize {
+    let mut digits = [0u8; 16];
+    let count = io::hex(byte as u64, 2, &mut digits);
+    put_text(text, at, &digits[..count])
+}
+
+// Each byte in hex, two digits.
+pub fn put_bytes(text: &mut [u8; 4096], at: usize, bytes: &[u8]) -> usize {
+    let mut next = at;
+    let mut i: usize = 0;
+    while i < bytes.len() {
+        next = put_byte(text, next, bytes[i]);
+        i += 1;
+    }
+    next
+}
+
 // A name and a number.
 pub fn put_named(text: &mut [u8; 4096], at: usize, letters: &[u8], n: u64) -> usize {
     let next = put_text(text, at, letters);

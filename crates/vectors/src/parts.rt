@@ -1,5 +1,5 @@
-// The first n elements of a buffer, and their two sums: from 1 on, each word x makes the first one (31 h + x) modulo 65,521 and the
-// second one (257 h + x) modulo 65,519.
+// The first n elements of a buffer, and the two sums of words: from 1 on, each word x makes the first one (31 h + x) modulo 65,521 and
+// the second one (257 h + x) modulo 65,519.
 pub struct Sums {
     pub first: u32,
     pub second: u32,
@@ -25,20 +25,6 @@ fn added(sums: Sums, word: u16) -> Sums {
     let first = (31 * (sums.first % 65521) + x) % 65521;
     let second = (257 * (sums.second % 65519) + x) % 65519;
     Sums { first, second }
-}
-
-fn wide(byte: u8) -> u16 {
-    byte as u16
-}
-
-pub fn sums_of_bytes(part: &[u8]) -> Sums {
-    let mut sums = begun();
-    let mut i: usize = 0;
-    while i < part.len() {
-        sums = added(sums, wide(part[i]));
-        i += 1;
-    }
-    sums
 }
 
 pub fn sums_of_words(part: &[u16]) -> Sums {

@@ -1,14 +1,15 @@
 // Replays cases, and prints a line for load and start and a line for every run.
 use crate::input::Input;
 use crate::input::next_word;
+use crate::output::put_bytes;
 use crate::output::put_line_end;
 use crate::output::put_named;
 use crate::output::put_number;
 use crate::output::put_text;
 use crate::output::put_word;
+use crate::output::put_words;
 use crate::parts::Sums;
 use crate::parts::bytes_of;
-use crate::parts::sums_of_bytes;
 use crate::parts::sums_of_words;
 use crate::parts::words_of;
 use crate::reading::Case;
@@ -31,18 +32,6 @@ fn print_sums(text: &mut [u8; 4096], at: usize, name: &[u8], sums: Sums) -> usiz
     put_number(text, next, sums.second as u64)
 }
 
-fn print_stack(text: &mut [u8; 4096], at: usize, stack: [u16; 16], count: usize) -> usize {
-    let mut next = at;
-    let mut i: usize = 0;
-    while i < count {
-        if i < 16 {
-            next = put_word(text, next, stack[i]);
-        }
-        i += 1;
-    }
-    next
-}
-
 // How many words the stack has up to the last one that is not 0.
 fn used(stack: [u16; 16]) -> usize {
     let mut n: usize = 16;
@@ -53,6 +42,11 @@ fn used(stack: [u16; 16]) -> usize {
         n -= 1;
     }
     0
+}
+
+fn print_stack(text: &mut [u8; 4096], at: usize, stack: [u16; 16]) -> usize {
+    let n = used(stack);
+    put_words(text, at, words_of(&stack, n))
 }
 
 // The registers in the order of the file, and the stack without the zeros at its end.
@@ -68,7 +62,7 @@ fn print_machine(text: &mut [u8; 4096], at: usize, machine: Machine) -> usize {
     next = put_word(text, next, r.h.0);
     next = put_word(text, next, r.mask);
     next = put_text(text, next, b" stack");
-    print_stack(text, next, stack, used(stack))
+    print_stack(text, next, stack)
 }
 
 fn number_of(ending: Ending) -> u16 {
@@ -104,27 +98,35 @@ fn print_begun(
     text: &mut [u8; 4096],
     at: usize,
     load: u16,
-    map: Sums,
+    map: &[u8],
     started: Started,
     store: Sums,
 ) -> usize {
     let machine = started.machine;
     let mut next = put_named(text, at, b"load", load as u64);
-    next = print_sums(text, next, b" map", map);
+    next = put_text(text, next, b" map ");
+    next = put_bytes(text, next, map);
     next = put_named(text, next, b" start", started.number as u64);
     next = print_sums(text, next, b" store", store);
     next = print_machine(text, next, machine);
     put_line_end(text, next)
 }
 
-fn print_ran(text: &mut [u8; 4096], at: usize, ran: Ran, outputs: Sums, store: Sums) -> usize {
+fn print_ran(
+    text: &mut [u8; 4096],
+    at: usize,
+    ran: Ran,
+    outputs: &[u16],
+    store: Sums,
+) -> usize {
     let ending = ran.ending;
     let machine = ran.machine;
     let mut next = put_named(text, at, b"run", number_of(ending) as u64);
     next = put_named(text, next, b" code", code_of(ending) as u64);
     next = put_named(text, next, b" count", ran.count as u64);
     next = print_machine(text, next, machine);
-    next = print_sums(text, next, b" outputs", outputs);
+    next = put_text(text, next, b" outputs");
+    next = put_words(text, next, outputs);
     next = print_sums(text, next, b" store", store);
     put_line_end(text, next)
 }
@@ -194,14 +196,8 @@ fn replay_run(
     );
     let machine = ran.machine;
     run.machine = machine;
-    let sums = sums_of_words(words_of(outputs, case.outs));
-    let out = print_ran(
-        text,
-        before.out,
-        ran,
-        sums,
-        sums_of_words(words_of(store, case.store)),
-    );
+    let sums = sums_of_words(words_of(store, case.store));
+    let out = print_ran(text, before.out, ran, words_of(outputs, case.outs), sums);
     Progress { run, out }
 }
 
@@ -250,9 +246,8 @@ fn begin(
 ) -> Progress {
     let load = load_part(image, case.image, map, case.map);
     let started = start_part(image, case.image, store, case.store);
-    let marks = sums_of_bytes(bytes_of(map, case.map));
-    let words = sums_of_words(words_of(store, case.store));
-    let out = print_begun(text, at, load, marks, started, words);
+    let sums = sums_of_words(words_of(store, case.store));
+    let out = print_begun(text, at, load, bytes_of(map, case.map), started, sums);
     let machine = started.machine;
     let input = case.input;
     let run = Run {

@@ -135,11 +135,9 @@ fn an_outcome_is_printed_in_lines() {
     let text = replay(&case, &mut ()).to_string();
     let lines: Vec<&str> = text.lines().collect();
     assert_eq!(lines.len(), 3);
-    assert!(lines[0].starts_with("load 0 map "));
+    assert!(lines[0].starts_with("load 0 map ffffffff00010200 start 0 store "));
     assert!(lines[0].ends_with(" machine 0 0 0 131 139 143 143 0 stack"));
-    let mut outputs = [3; 16];
-    outputs[2] = 7;
-    let outputs = format!("outputs {} store ", Checksum::of(outputs.into_iter()));
+    let outputs = "outputs 3 3 7 3 3 3 3 3 3 3 3 3 3 3 3 3 store ";
     let stopped = format!("run 31 code 0 count 3 machine 0 3 0 131 139 143 143 0 stack {outputs}");
     assert!(lines[1].starts_with(&stopped), "{}", lines[1]);
     let refused = format!("run 10 code 0 count 0 machine 0 3 0 131 139 143 143 0 stack {outputs}");
@@ -160,7 +158,7 @@ fn a_stack_is_printed_without_its_last_zeros() {
     };
     let text = replay(&case, &mut ()).to_string();
     assert!(text.contains(
-        "\nrun 1 code 0 count 0 machine 0 0 0 0 0 0 0 0 stack 0 5 outputs 1 1 store 1 1\n"
+        "\nrun 1 code 0 count 0 machine 0 0 0 0 0 0 0 0 stack 0 5 outputs store 1 1\n"
     ));
 }
 

@@ -1,14 +1,15 @@
--- `vectors::replay::print_stack` is safe and ends: the measure is the words that are left. Nothing has to hold from turn to turn.
+-- `vectors::output::put_words` is safe and ends: the measure is the words that are left. Nothing has to hold from turn to turn.
 use Prim.Native.Nat.{_-_}
 use borrow.Author.Needs.{needs}
-use Rattle.vectors.proofs.replay.print_stack.Statement.{statement}
-use Rattle.vectors.proofs.replay.print_stack.Tie as tie
+use lib.ListN.{length}
+use Rattle.vectors.proofs.output.put_words.Statement.{statement}
+use Rattle.vectors.proofs.output.put_words.Tie as tie
 
 abbrev Inv-loop : tie.InvT-loop
-Inv-loop text₀ at count stack next₀ i₀ text next i = Unit {0}
+Inv-loop text₀ at words next₀ i₀ text next i = Unit {0}
 
 abbrev μ-loop : tie.MeasureT-loop
-μ-loop text₀ at count stack next₀ i₀ text next i = count - i
+μ-loop text₀ at words next₀ i₀ text next i = length words - i
 
 loop-holds : tie.Need-loop-holds Inv-loop μ-loop
 loop-holds c = tt
@@ -16,8 +17,8 @@ loop-holds c = tt
 mul-put-word : tie.Need-mul-put-word Inv-loop μ-loop
 mul-put-word c = search needs
 
-array-read-put-word : tie.Need-array-read-put-word Inv-loop μ-loop
-array-read-put-word c = search needs
+shared-slice-read-put-word : tie.Need-shared-slice-read-put-word Inv-loop μ-loop
+shared-slice-read-put-word c = search needs
 
 put-word-requires : tie.Need-put-word-requires Inv-loop μ-loop
 put-word-requires c κs = tt
@@ -34,15 +35,15 @@ loop-again c = tt
 returns : tie.Need-returns Inv-loop μ-loop
 returns c = tt
 
-pub print-stack-spec : {M : Type 1} → statement M
-print-stack-spec =
+pub put-words-spec : {M : Type 1} → statement M
+put-words-spec =
     tie.close
     (tie.spec
     Inv-loop
     μ-loop
     loop-holds
     mul-put-word
-    array-read-put-word
+    shared-slice-read-put-word
     put-word-requires
     add-i
     loop-less

@@ -14,7 +14,7 @@ use Rattle.mcode.specs.Word.{pick, and}
 use Rattle.mcode.specs.Image.{margin, moduleOf, basesOf, procCount, entryOf, paramsOf, resultsOf}
 use Rattle.mcode.specs.Depths.{depths, calls, callsIn, marksOf}
 use Rattle.mcode.specs.Machine.{position, machine, at, framed, top, second, take2}
-use Rattle.mcode.specs.Step.{storesTo, wordIn, call, unitBased, standing, backTo, returned, processAt, isProcess, savedStore, restoredMachine, switched, transferred}
+use Rattle.mcode.specs.Step.{storesTo, wordIn, call, unitBased, lands, backTo, returned, processAt, withinLimit, resumes, isProcess, savedStore, restoredMachine, switched, transferred}
 use Rattle.mcode.proofs.Tests.{and-both}
 use Rattle.mcode.proofs.Standing.{At, at-of, Good, entry-at, met}
 use Rattle.mcode.proofs.Rows.{takenBy, leftBy}
@@ -39,7 +39,7 @@ module _ (H : Here) (n : Position) where
   back-right : (k t : ℕ) → R H .l .0 ≤ R H .h .0 → Right H n Return (backTo (H .lent) k t (H .x))
   unfolding backTo
   back-right k t h =
-      by-test H n (standing (H .lent) k t (D H)) (λ s.
+      by-test H n (lands (H .lent) k t (R H)) (λ s.
       to H n (machine (at (position t) (D H) (framed k (wordIn (H .x) (R H .l .0 + 1)) (R H .l .0) (R H))) (M H .stack))
       (framed-fine H 0 0 k (position t) (D H) (wordIn (H .x) (R H .l .0 + 1)) (R H .l .0) (M H .stack) (same-stack H) (at-of (P H) (H .lent .map) k t (D H) s) h (omega arith)))
       (λ s. off tt)
@@ -65,7 +65,7 @@ module _ (H : Here) (n : Position) where
           let (a₂, b₂) = and-both (and (leb margin (r .v)) (leb (r .v) w)) _ b₁ in
           let (a₃, b₃) = and-both (and (leb 1 (r .s)) (leb (r .s) w)) _ b₂ in
           let (a₄, b₄) = and-both (and (leb (r .k) 16) (ltb (r .k) (r .s))) _ b₃ in
-          let (a₅, b₅) = and-both (leb (r .s - 1 - r .k) (r .v - margin)) _ b₄ in
+          let (a₅, b₅) = and-both (withinLimit r) (resumes (H .lent) r) b₄ in
           let (c₁, c₂) = and-both (leb margin (r .v)) (leb (r .v) w) a₂ in
           let h₁ : q + 8 ≤ w = leb-true (q + 8) w a₁ in
           let h₂ : 24 ≤ r .v = leb-true 24 (r .v) c₁ in

@@ -76,12 +76,16 @@ unitBased program g = unitOf (basesOf program) (program .count) g
 abbrev pub standing : Lent → ℕ → ℕ → ℕ → Bool
 standing lent k q d = and (ltb k (lent .program .count)) (marked (lent .map) (moduleOf (lent .program) k) q d)
 
+-- a return lands on position t of module k only at "a mark equal to the current depth there"
+abbrev pub lands : Lent → ℕ → ℕ → Registers → Bool
+lands lent k t r = standing lent k t (r .depth)
+
 -- back to position t of module k: "no such module, or no mark equal to the current depth there: 34. S = L, L = word L+1."
 unfoldable pub backTo : Lent → ℕ → ℕ → State → Outcome
 backTo lent k t x =
     let m = x .machine in
     let r = m .registers in
-    pick (standing lent k t (r .depth))
+    pick (lands lent k t r)
     (goes x (machine (at (position t) (r .depth) (framed k (wordIn x (r .l .0 + 1)) (r .l .0) r)) (m .stack)))
     (halt ReturnMark)
 
@@ -120,6 +124,14 @@ processAt store q = record {
   k = getD store (getD store (q + 4) 0 - 1) 0;
 }
 
+-- the S that is restored is not above the H that is: "s-1-k <= v-24"
+abbrev pub withinLimit : Process → Bool
+withinLimit r = leb (r .s - 1 - r .k) (r .v - margin)
+
+-- a process goes on at "G a base, position marked k there"
+abbrev pub resumes : Lent → Process → Bool
+resumes lent r = standing lent (unitBased (lent .program) (r .g)) (r .pc) (r .k)
+
 -- "q+8 <= W; 24 <= v <= W; 1 <= s <= W; k <= 16, k < s; s-1-k <= v-24; G a base, position marked k there"
 unfoldable pub isProcess : Lent → ℕ → ℕ → Process → Bool
 isProcess lent w q r =
@@ -127,8 +139,7 @@ isProcess lent w q r =
     (and (and (leb margin (r .v)) (leb (r .v) w))
     (and (and (leb 1 (r .s)) (leb (r .s) w))
     (and (and (leb (r .k) 16) (ltb (r .k) (r .s)))
-    (and (leb (r .s - 1 - r .k) (r .v - margin))
-    (standing lent (unitBased (lent .program) (r .g)) (r .pc) (r .k))))))
+    (and (withinLimit r) (resumes lent r)))))
 
 -- the words below n of the stack, from s up, "top first"
 unfoldable pub saved : List ℕ → ℕ → ℕ → List ℕ → List ℕ

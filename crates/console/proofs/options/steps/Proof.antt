@@ -1,0 +1,30 @@
+use mathlib.Core.Path.{_≡_, refl, sym, _∙_}
+use Rattle.console.specs.Choices.{stepsOf}
+use native.Mathlib.Omega.{arith}
+use borrow.Author.Tests.{ne-eqb, lt-ltb, le-ltb, le-leb, lt-leb, eq-eqb}
+use borrow.Author.Needs.{needs}
+use Rattle.console.proofs.options.steps.Statement.{statement}
+use Rattle.console.proofs.options.steps.Tie as tie
+use Rattle.console.proofs.options.steps.Reads as reads
+use Rattle.console.proofs.options.steps.Lts as lts
+use Rattle.console.proofs.number.decimal.Reads as decimal-reads
+
+decimal-requires : tie.Need-decimal-requires
+decimal-requires c κs = search needs
+
+enum-known-n : tie.Need-enum-known-n
+enum-known-n c = search needs
+
+enum-told : tie.Need-enum-told
+enum-told c = search needs
+
+returns : tie.Need-returns
+unfolding stepsOf
+returns c = rw (sym (c .before .before .before .decimal .ensures) ∙ c .before .n .given .1)
+
+returns-2 : tie.Need-returns-2
+unfolding stepsOf
+returns-2 c = rw (sym (c .before .before .decimal .ensures) ∙ c .enum-told .given .1)
+
+pub steps-spec : {M : Type 1} → statement M
+steps-spec = tie.close (tie.spec decimal-requires enum-known-n enum-told returns returns-2)

@@ -1,0 +1,39 @@
+use mathlib.Core.Path.{_≡_, refl, sym, _∙_}
+use Rattle.console.specs.Choices.{storeOf}
+use native.Mathlib.Omega.{arith}
+use borrow.Author.Tests.{ne-eqb, lt-ltb, le-ltb, le-leb, lt-leb, eq-eqb}
+use borrow.Author.Needs.{needs}
+use Rattle.console.proofs.options.store.Statement.{statement}
+use Rattle.console.proofs.options.store.Tie as tie
+use Rattle.console.proofs.options.store.Reads as reads
+use Rattle.console.proofs.options.store.Lts as lts
+use Rattle.console.proofs.number.decimal.Reads as decimal-reads
+
+decimal-requires : tie.Need-decimal-requires
+decimal-requires c κs = search needs
+
+enum-known-n : tie.Need-enum-known-n
+enum-known-n c = search needs
+
+cast-t6 : tie.Need-cast-t6
+cast-t6 c = search needs
+
+returns : tie.Need-returns
+unfolding storeOf
+returns c = rw (sym (c .before .before .before .before .decimal .ensures) ∙ c .before .before .n .given .1, le-leb _ _ (c .if1 .taken))
+
+enum-told : tie.Need-enum-told
+enum-told c = search needs
+
+returns-2 : tie.Need-returns-2
+unfolding storeOf
+returns-2 c = rw (sym (c .before .before .before .before .decimal .ensures) ∙ c .before .before .n .given .1, lt-leb _ _ (c .if1 .left))
+
+returns-3 : tie.Need-returns-3
+unfolding storeOf
+returns-3 c = rw (sym (c .before .before .decimal .ensures) ∙ c .enum-told .given .1)
+
+pub store-spec : {M : Type 1} → statement M
+store-spec =
+    tie.close
+    (tie.spec decimal-requires enum-known-n cast-t6 returns enum-told returns-2 returns-3)

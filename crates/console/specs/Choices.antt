@@ -1,0 +1,89 @@
+-- What the arguments of a reading ask. Assumes nothing.
+use Prim.Native.Nat.{ℕ, _+_}
+use mathlib.Core.Bool.{Bool, true, false}
+use mathlib.Core.List.{List, [], _∷_}
+use lib.Dec.{eqb, leb, ltb}
+use lib.ListN.{length, getD, take, drop, set, replicate}
+use Rattle.mcode.specs.Word.{pick, and}
+use Rattle.console.specs.Decimals.{numberOf}
+use Rattle.console.specs.declared.number.Number.{Number}
+use Rattle.console.specs.declared.number.Number.the-variants.{Is, Bad}
+use Rattle.console.specs.declared.options.Options.{Options}
+use Rattle.console.specs.declared.options.Argument.{Argument}
+use Rattle.console.specs.declared.options.Argument.the-variants.{Help, Steps as StepsNamed, Store as StoreNamed, Input as InputNamed, Unknown, File}
+use Rattle.console.specs.declared.options.Choice.{Choice}
+use Rattle.console.specs.declared.options.Choice.the-variants.{Steps, Store, Input, Bad as BadChoice}
+
+-- "W = 4,096, inputs 0, outputs first 0, n = 1,000"
+abbrev pub defaultOptions : Options
+defaultOptions = record { steps = 1000; store = 4096; inputs = replicate 16 0 }
+
+-- two texts are the same
+unfoldable pub sameText : List ℕ → List ℕ → Bool
+sameText [] [] = true
+sameText [] (b ∷ t) = false
+sameText (a ∷ s) [] = false
+sameText (a ∷ s) (b ∷ t) = and (eqb a b) (sameText s t)
+
+-- `--help`, `--steps`, `--store`, `--input` in ASCII
+abbrev pub helpText : List ℕ
+helpText = 45 ∷ 45 ∷ 104 ∷ 101 ∷ 108 ∷ 112 ∷ []
+
+abbrev pub stepsText : List ℕ
+stepsText = 45 ∷ 45 ∷ 115 ∷ 116 ∷ 101 ∷ 112 ∷ 115 ∷ []
+
+abbrev pub storeText : List ℕ
+storeText = 45 ∷ 45 ∷ 115 ∷ 116 ∷ 111 ∷ 114 ∷ 101 ∷ []
+
+abbrev pub inputText : List ℕ
+inputText = 45 ∷ 45 ∷ 105 ∷ 110 ∷ 112 ∷ 117 ∷ 116 ∷ []
+
+-- another text that begins with `-` and has more than that is no file
+unfoldable pub kindOf : List ℕ → Argument
+kindOf text =
+    pick (sameText text helpText) Help
+    (pick (sameText text stepsText) StepsNamed
+    (pick (sameText text storeText) StoreNamed
+    (pick (sameText text inputText) InputNamed
+    (pick (ltb (length text) 2) File
+    (pick (eqb (getD text 0 0) 45) Unknown File)))))
+
+abbrev pub stepsFrom : Number → Choice
+stepsFrom (Is n) = Steps n
+stepsFrom Bad = BadChoice
+
+unfoldable pub stepsOf : List ℕ → Choice
+stepsOf text = stepsFrom (numberOf text)
+
+abbrev pub storeFrom : Number → Choice
+storeFrom (Is n) = pick (leb n 65536) (Store n) BadChoice
+storeFrom Bad = BadChoice
+
+unfoldable pub storeOf : List ℕ → Choice
+storeOf text = storeFrom (numberOf text)
+
+-- where the first b stands in a text; its length where there is none
+unfoldable pub placeOf : ℕ → List ℕ → ℕ
+placeOf b [] = 0
+placeOf b (a ∷ rest) = pick (eqb a b) 0 (placeOf b rest + 1)
+
+abbrev pub wired : Number → Number → Choice
+wired (Is c) (Is v) = pick (and (leb c 15) (leb v 65535)) (Input c v) BadChoice
+wired (Is c) Bad = BadChoice
+wired Bad v = BadChoice
+
+unfoldable pub inputFrom : List ℕ → List ℕ → Choice
+inputFrom channel value = wired (numberOf channel) (numberOf value)
+
+-- CH=VALUE: what stands before the first `=` (61), and what stands after it
+unfoldable pub inputOf : List ℕ → Choice
+inputOf text =
+    pick (eqb (placeOf 61 text) (length text)) BadChoice
+    (inputFrom (take (placeOf 61 text) text) (drop (placeOf 61 text + 1) text))
+
+-- the field that a choice sets, to what it says; a later one wins
+abbrev pub withChoice : Options → Choice → Options
+withChoice o (Steps n) = record { steps = n; store = o .store; inputs = o .inputs }
+withChoice o (Store w) = record { steps = o .steps; store = w; inputs = o .inputs }
+withChoice o (Input c v) = record { steps = o .steps; store = o .store; inputs = set (o .inputs) c v }
+withChoice o BadChoice = o

@@ -1,0 +1,50 @@
+// Files to read from.
+use libc::STDIN_FILENO;
+ghost use lib.ListN.{length};
+ghost use Rattle.console.specs.Counted.{Within};
+
+// How many bytes were read, or that a read failed (`os::errno` says why).
+pub enum Filled {
+    Bytes(usize),
+    Failed,
+}
+
+// A descriptor of the file, or -1 (`os::errno` says why). `-` is standard input.
+pub fn opened(name: &[u8]) -> i32 {
+    if check::same(name, b"-") {
+        return STDIN_FILENO;
+    }
+    os::open_read(name)
+}
+
+// One read.
+fn some(fd: i32, part: &mut [u8]) -> Filled
+    ensures { λ r. ⌜ Within r (length (now (part .entry))) ⌝ }
+{
+    let got = libc::read(fd, part);
+    if got < 0 {
+        return Filled::Failed;
+    }
+    Filled::Bytes(io::count(got, part))
+}
+
+// Reads until the buffer is full or the input ends.
+pub fn fill(fd: i32, buffer: &mut [u8]) -> Filled
+    ensures { λ r. ⌜ Within r (length (now (buffer .entry))) ⌝ }
+{
+    let mut done: usize = 0;
+    while done < buffer.len() {
+        match some(fd, &mut buffer[done..]) {
+            Filled::Bytes(more) => {
+                if more == 0 {
+                    return Filled::Bytes(done);
+                }
+                done += more;
+            }
+            Filled::Failed => {
+                return Filled::Failed;
+            }
+        }
+    }
+    Filled::Bytes(done)
+}

@@ -1,0 +1,188 @@
+// What the arguments ask: the budget, the store's size and the inputs of a reading.
+use crate::number::Number;
+use crate::number::decimal;
+ghost use mathlib.Core.Path.{_≡_};
+ghost use lib.ListN.{length, set};
+ghost use Prim.Native.Nat.{_≤_};
+ghost use Rattle.console.specs.Choices.{defaultOptions, sameText, kindOf, stepsOf, storeOf, placeOf, inputFrom, inputOf, withChoice};
+
+pub struct Options {
+    pub steps: u32,
+    pub store: usize,
+    pub inputs: [u16; 16],
+}
+
+// The reading of the paper: n = 1,000, W = 4,096, inputs 0.
+pub fn defaults() -> Options
+    ensures { λ r. ⌜ r ≡ defaultOptions ⌝ }
+{
+    let inputs = [0u16; 16];
+    Options {
+        steps: 1000,
+        store: 4096,
+        inputs,
+    }
+}
+
+// What one argument is: the name of an option, an option that there is not, or a file.
+pub enum Argument {
+    Help,
+    Steps,
+    Store,
+    Input,
+    Unknown,
+    File,
+}
+
+// Whether two texts are the same.
+fn same(a: &[u8], b: &[u8]) -> bool
+    ensures { λ r. ⌜ r ≡ sameText (now (a .entry)) (now (b .entry)) ⌝ }
+{
+    check::same(a, b)
+}
+
+// `-` alone is a file: standard input.
+pub fn kind(text: &[u8]) -> Argument
+    ensures { λ r. ⌜ r ≡ kindOf (now (text .entry)) ⌝ }
+{
+    if same(text, b"--help") {
+        return Argument::Help;
+    }
+    if same(text, b"--steps") {
+        return Argument::Steps;
+    }
+    if same(text, b"--store") {
+        return Argument::Store;
+    }
+    if same(text, b"--input") {
+        return Argument::Input;
+    }
+    if text.len() < 2 {
+        return Argument::File;
+    }
+    if text[0] == 45 {
+        return Argument::Unknown;
+    }
+    Argument::File
+}
+
+// What the value of an option asks, or that it is bad.
+pub enum Choice {
+    Steps(u32),
+    Store(usize),
+    Input(u8, u16),
+    Bad,
+}
+
+// --steps N, 0 to 4,294,967,295.
+pub fn steps(text: &[u8]) -> Choice
+    ensures { λ r. ⌜ r ≡ stepsOf (now (text .entry)) ⌝ }
+{
+    match decimal(text) {
+        Number::Is(n) => Choice::Steps(n),
+        Number::Bad => Choice::Bad,
+    }
+}
+
+// --store W, 0 to 65,536.
+pub fn store(text: &[u8]) -> Choice
+    ensures { λ r. ⌜ r ≡ storeOf (now (text .entry)) ⌝ }
+{
+    match decimal(text) {
+        Number::Is(n) => {
+            if n <= 65536 {
+                return Choice::Store(n as usize);
+            }
+            Choice::Bad
+        }
+        Number::Bad => Choice::Bad,
+    }
+}
+
+// Where the first `=` stands, or the text's length.
+fn equals(text: &[u8]) -> usize
+    ensures { λ r. ⌜ (r ≡ placeOf 61 (now (text .entry))) × (r ≤ length (now (text .entry))) ⌝ }
+{
+    let mut i: usize = 0;
+    while i < text.len() {
+        if text[i] == 61 {
+            return i;
+        }
+        i += 1;
+    }
+    i
+}
+
+// A channel, 0 to 15, and a value, 0 to 65,535.
+fn pair(channel: &[u8], value: &[u8]) -> Choice
+    ensures { λ r. ⌜ r ≡ inputFrom (now (channel .entry)) (now (value .entry)) ⌝ }
+{
+    match decimal(channel) {
+        Number::Is(c) => match decimal(value) {
+            Number::Is(v) => {
+                if 15 < c {
+                    return Choice::Bad;
+                }
+                if 65535 < v {
+                    return Choice::Bad;
+                }
+                Choice::Input(c as u8, v as u16)
+            }
+            Number::Bad => Choice::Bad,
+        },
+        Number::Bad => Choice::Bad,
+    }
+}
+
+// --input CH=VALUE.
+pub fn input(text: &[u8]) -> Choice
+    ensures { λ r. ⌜ r ≡ inputOf (now (text .entry)) ⌝ }
+{
+    let at = equals(text);
+    if at == text.len() {
+        return Choice::Bad;
+    }
+    let next = at + 1;
+    pair(&text[..at], &text[next..])
+}
+
+// The inputs with one of them set; there is none above 15.
+fn with_input(from: [u16; 16], channel: u8, value: u16) -> [u16; 16]
+    ensures { λ r. ⌜ r ≡ set from channel value ⌝ }
+{
+    let mut inputs = from;
+    let c = channel as usize;
+    if c < 16 {
+        inputs[c] = value;
+        return inputs;
+    }
+    inputs
+}
+
+// The options with one choice made anew; a bad one changes nothing.
+pub fn with_choice(options: Options, choice: Choice) -> Options
+    ensures { λ r. ⌜ r ≡ withChoice options choice ⌝ }
+{
+    let inputs = options.inputs;
+    match choice {
+        Choice::Steps(n) => Options {
+            steps: n,
+            store: options.store,
+            inputs,
+        },
+        Choice::Store(w) => Options {
+            steps: options.steps,
+            store: w,
+            inputs,
+        },
+        Choice::Input(channel, value) => {
+            let changed = with_input(inputs, channel, value);
+            Options {
+                steps: options.steps,
+                store: options.store,
+                inputs: changed,
+            }
+        }
+        Choice::Bad => options,
+    }
+}

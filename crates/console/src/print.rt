@@ -1,0 +1,106 @@
+// The lines that the programs print.
+use crate::words;
+use libc::STDERR_FILENO;
+use libc::STDOUT_FILENO;
+use mcode::Machine;
+use mcode::Stop;
+
+// A label and a number.
+pub fn number(fd: i32, label: &[u8], n: u64) {
+    io::write_all(fd, label);
+    io::print_decimal(fd, n);
+}
+
+// `stop .. code .. steps ..`, with no line end.
+pub fn stopped(stop: Stop, count: u32) {
+    number(STDOUT_FILENO, b"stop ", mcode::stop_number(stop) as u64);
+    number(STDOUT_FILENO, b" code ", mcode::stop_code(stop) as u64);
+    number(STDOUT_FILENO, b" steps ", count as u64);
+}
+
+// ` module .. pc .. depth ..`, with no line end.
+pub fn standing(machine: Machine) {
+    let registers = machine.registers;
+    number(STDOUT_FILENO, b" module ", registers.unit as u64);
+    number(STDOUT_FILENO, b" pc ", registers.pc.0 as u64);
+    number(STDOUT_FILENO, b" depth ", registers.depth as u64);
+}
+
+// The line of the 16 outputs.
+pub fn outputs(words: [u16; 16]) {
+    number(STDOUT_FILENO, b"", words[0] as u64);
+    let mut i = 1usize;
+    while i < 16 {
+        number(STDOUT_FILENO, b" ", words[i] as u64);
+        i += 1;
+    }
+    io::write_all(STDOUT_FILENO, b"\n");
+}
+
+// The two lines of a reading.
+pub fn reading(stop: Stop, count: u32, machine: Machine, words: [u16; 16]) {
+    stopped(stop, count);
+    standing(machine);
+    io::write_all(STDOUT_FILENO, b"\n");
+    outputs(words);
+}
+
+// The one line of a refusal.
+pub fn refused(refusal: u16) {
+    number(STDOUT_FILENO, b"refused ", refusal as u64);
+    io::write_all(STDOUT_FILENO, b"\n");
+}
+
+// Where a refusal lies: unknown, at a byte of the image, or in a module at a byte of the image.
+pub enum Place {
+    Unknown,
+    Byte(usize),
+    Inside(usize, usize),
+}
+
+fn put_place(place: Place) {
+    match place {
+        Place::Unknown => {}
+        Place::Byte(byte) => {
+            number(STDERR_FILENO, b" (byte ", byte as u64);
+            io::write_all(STDERR_FILENO, b")");
+        }
+        Place::Inside(unit, byte) => {
+            number(STDERR_FILENO, b" (module ", unit as u64);
+            number(STDERR_FILENO, b", byte ", byte as u64);
+            io::write_all(STDERR_FILENO, b")");
+        }
+    }
+}
+
+// On standard error, `PROGRAM: SUBJECT: `, with which every line there begins.
+fn head(program: &[u8], subject: &[u8]) {
+    io::write_all(STDERR_FILENO, program);
+    io::write_all(STDERR_FILENO, b": ");
+    io::write_all(STDERR_FILENO, subject);
+    io::write_all(STDERR_FILENO, b": ");
+}
+
+// `PROGRAM: FILE: refused N: WORDS (module M, byte B)`.
+pub fn refusal(program: &[u8], file: &[u8], refusal: u16, place: Place) {
+    head(program, file);
+    number(STDERR_FILENO, b"refused ", refusal as u64);
+    io::write_all(STDERR_FILENO, b": ");
+    words::refusal(STDERR_FILENO, refusal);
+    put_place(place);
+    io::write_all(STDERR_FILENO, b"\n");
+}
+
+// `PROGRAM: ARGUMENT: what is allowed`.
+pub fn complaint(program: &[u8], argument: &[u8], allowed: &[u8]) {
+    head(program, argument);
+    io::write_all(STDERR_FILENO, allowed);
+    io::write_all(STDERR_FILENO, b"\n");
+}
+
+// `PROGRAM: FILE: the system's reason`, just after a call that failed.
+pub fn unreadable(program: &[u8], file: &[u8]) {
+    io::write_all(STDERR_FILENO, program);
+    io::write_all(STDERR_FILENO, b": ");
+    os::fail(file);
+}

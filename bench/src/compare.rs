@@ -1,6 +1,7 @@
 //! Freshly generated cases on both sides: load, start and the list of runs, with all buffers and machines compared after each call.
 
-use crate::engine::{self, words, ANSWER_NUMBERS, MACHINE_WORDS};
+use crate::words::words;
+use cembuxola::{c as engine, ANSWER_NUMBERS, MACHINE_WORDS};
 use crate::sides::{Compared, Sides};
 use second::case::Case;
 use second::gen;

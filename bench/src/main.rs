@@ -1,10 +1,10 @@
 //! `bench`: both sides timed. `bench --compare N [SEED]`: N generated cases compared. bench/run builds and calls it.
 
 mod compare;
-mod engine;
 mod images;
 mod sides;
 mod speed;
+mod words;
 
 use std::process::ExitCode;
 

@@ -1,6 +1,7 @@
 //! The same calls on both sides, each with buffers of its own, compared after every call.
 
-use crate::engine::{self, words, ANSWER_NUMBERS, MACHINE_WORDS};
+use crate::words::words;
+use cembuxola::{c as engine, ANSWER_NUMBERS, MACHINE_WORDS};
 use second::Machine;
 
 /// The buffers and the machine of a program on both sides.

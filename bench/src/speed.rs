@@ -76,7 +76,7 @@ fn time_load(one: &Long) -> Compared<()> {
         theirs,
     } = &mut sides;
     let times = least_times(
-        || assert_eq!(crate::engine::load(image, &mut ours.map), 0),
+        || assert_eq!(cembuxola::c::load(image, &mut ours.map), 0),
         || assert_eq!(second::load(image, &mut theirs.map), 0),
     );
     let speed = times.map(|time| image.len() as f64 / time / 1e6);

@@ -1,10 +1,6 @@
-//! The proved engine, by the functions of include/cembuxola.h.
+//! The functions of include/cembuxola.h, over slices. They ask nothing of the lengths and contents: every one is answered with a number.
 
-use second::Machine;
-
-/// The words of a machine, and the numbers of an answer.
-pub const MACHINE_WORDS: usize = 24;
-pub const ANSWER_NUMBERS: usize = 2;
+use crate::{ANSWER_NUMBERS, MACHINE_WORDS};
 
 extern "C" {
     fn cembuxola_load(
@@ -40,11 +36,13 @@ extern "C" {
     ) -> u16;
 }
 
+/// Load: 0, or a refusal 1 to 8.
 pub fn load(image: &[u8], map: &mut [u8]) -> u16 {
     // SAFETY: each pointer and length are those of a slice, and the slice that is written overlaps no other.
     unsafe { cembuxola_load(image.as_ptr(), image.len(), map.as_mut_ptr(), map.len()) }
 }
 
+/// Start: 0, or a refusal 1 to 6, 9, or 20 where the machine has not [`MACHINE_WORDS`] words.
 pub fn start(image: &[u8], store: &mut [u16], machine: &mut [u16]) -> u16 {
     // SAFETY: as in `load`.
     unsafe {
@@ -59,6 +57,7 @@ pub fn start(image: &[u8], store: &mut [u16], machine: &mut [u16]) -> u16 {
     }
 }
 
+/// Run: a stop 30 to 40, or a refusal; 20 where the machine has not [`MACHINE_WORDS`] words or the answer not [`ANSWER_NUMBERS`].
 #[allow(clippy::too_many_arguments)]
 pub fn run(
     machine: &mut [u16],
@@ -92,19 +91,4 @@ pub fn run(
     }
 }
 
-/// A machine of the second interpreter as the proved one's words.
-pub fn words(machine: &Machine) -> [u16; MACHINE_WORDS] {
-    let mut words = [0; MACHINE_WORDS];
-    words[..8].copy_from_slice(&[
-        u16::from(machine.module),
-        machine.pc,
-        u16::from(machine.depth),
-        machine.p,
-        machine.l,
-        machine.s,
-        machine.h,
-        machine.m,
-    ]);
-    words[8..].copy_from_slice(&machine.stack);
-    words
-}
+const _: () = assert!(MACHINE_WORDS == 24 && ANSWER_NUMBERS == 2);

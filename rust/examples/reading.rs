@@ -1,0 +1,34 @@
+//! reading FILE: the desk's reading of an image, by the wrapper: W = 4,096, inputs 0, outputs first 0, n = 1,000.
+
+use cembuxola::{Cabinet, CHANNELS};
+use std::process::ExitCode;
+
+fn main() -> ExitCode {
+    let mut arguments = std::env::args().skip(1);
+    let (Some(file), None) = (arguments.next(), arguments.next()) else {
+        eprintln!("usage: reading FILE");
+        return ExitCode::from(2);
+    };
+    let image = match std::fs::read(&file) {
+        Ok(image) => image,
+        Err(error) => {
+            eprintln!("{file}: {error}");
+            return ExitCode::from(2);
+        }
+    };
+    match Cabinet::new(&image, 4096) {
+        Ok(cabinet) => print_reading(cabinet),
+        Err(refusal) => println!("refused {}", refusal.number()),
+    }
+    ExitCode::SUCCESS
+}
+
+fn print_reading(mut cabinet: Cabinet) {
+    let ran = cabinet.run(&[0; CHANNELS], 1000);
+    let machine = cabinet.machine();
+    let (stop, code, steps) = (ran.stop.number(), ran.stop.code(), ran.count);
+    let (module, pc, depth) = (machine.module(), machine.pc(), machine.depth());
+    println!("stop {stop} code {code} steps {steps} module {module} pc {pc} depth {depth}");
+    let outputs: Vec<String> = cabinet.outputs().iter().map(u16::to_string).collect();
+    println!("{}", outputs.join(" "));
+}

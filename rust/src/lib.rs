@@ -1,0 +1,153 @@
+//! A safe wrapper of the proved M-code engine's C library.
+//!
+//! [`load`], [`start`] and [`run`] are the engine's three calls over the caller's buffers. [`Cabinet`] keeps an accepted image with its
+//! map, store, outputs and machine, and only runs it.
+//!
+//! The numbers of the C functions become types: a [`Refusal`], or a [`Stop`]. What the calls answer, and what they leave in every
+//! buffer, is proved of the library; here only names are given to it.
+
+pub mod c;
+mod numbers;
+
+pub use numbers::{Refusal, Stop};
+
+/// The words of a machine.
+pub const MACHINE_WORDS: usize = 24;
+/// The numbers of a run's answer: count and code.
+pub const ANSWER_NUMBERS: usize = 2;
+/// The inputs and the outputs of a run.
+pub const CHANNELS: usize = 16;
+
+/// A machine, from [`start`] or from a run before. Its words can be kept and handed back: run believes none of them.
+#[derive(Clone, Copy, Debug, Default, PartialEq, Eq, Hash)]
+pub struct Machine {
+    /// As include/cembuxola.h lists them.
+    pub words: [u16; MACHINE_WORDS],
+}
+
+impl Machine {
+    /// The module where it stands.
+    pub fn module(&self) -> u16 {
+        self.words[0]
+    }
+
+    /// The position in that module's code, in bytes.
+    pub fn pc(&self) -> u16 {
+        self.words[1]
+    }
+
+    /// The words on the operand stack: 0 to 16 in a machine that stands.
+    pub fn depth(&self) -> u16 {
+        self.words[2]
+    }
+
+    /// The operand stack, the bottom first.
+    pub fn stack(&self) -> &[u16] {
+        let depth = usize::from(self.depth()).min(CHANNELS);
+        &self.words[8..8 + depth]
+    }
+}
+
+/// How a run stopped, and how many steps it made. The stopping instruction is not counted.
+#[derive(Clone, Copy, Debug, PartialEq, Eq)]
+pub struct Ran {
+    pub stop: Stop,
+    pub count: u32,
+}
+
+/// Tests an image and fills its map, which is as long as the image or longer.
+pub fn load(image: &[u8], map: &mut [u8]) -> Result<(), Refusal> {
+    Refusal::accepted(c::load(image, map))
+}
+
+/// Clears the store and makes the machine that stands at procedure 0 of module 0.
+pub fn start(image: &[u8], store: &mut [u16]) -> Result<Machine, Refusal> {
+    let mut machine = Machine::default();
+    Refusal::accepted(c::start(image, store, &mut machine.words))?;
+    Ok(machine)
+}
+
+/// Makes at most n steps. A refused run leaves everything as it was.
+pub fn run(
+    machine: &mut Machine,
+    image: &[u8],
+    map: &[u8],
+    store: &mut [u16],
+    outputs: &mut [u16],
+    inputs: &[u16],
+    n: u32,
+) -> Result<Ran, Refusal> {
+    let mut answer = [0; ANSWER_NUMBERS];
+    let number = c::run(
+        &mut machine.words,
+        image,
+        map,
+        store,
+        outputs,
+        inputs,
+        &mut answer,
+        n,
+    );
+    let [count, code] = answer;
+    // a code is a word
+    let stop = Stop::numbered(number, code as u16).ok_or_else(|| Refusal::numbered(number))?;
+    Ok(Ran { stop, count })
+}
+
+/// An accepted image with all that it runs in.
+#[derive(Clone, Debug)]
+pub struct Cabinet {
+    image: Vec<u8>,
+    map: Vec<u8>,
+    store: Vec<u16>,
+    outputs: [u16; CHANNELS],
+    machine: Machine,
+}
+
+impl Cabinet {
+    /// Loads and starts an image in a store of so many words, with all outputs 0.
+    pub fn new(image: &[u8], words: usize) -> Result<Cabinet, Refusal> {
+        let mut map = vec![0; image.len()];
+        load(image, &mut map)?;
+        let mut store = vec![0; words];
+        let machine = start(image, &mut store)?;
+        Ok(Cabinet {
+            image: image.to_vec(),
+            map,
+            store,
+            outputs: [0; CHANNELS],
+            machine,
+        })
+    }
+
+    /// Makes at most n steps. After an accepted start no run with 16 inputs is refused: that is the engine's third demand.
+    pub fn run(&mut self, inputs: &[u16; CHANNELS], n: u32) -> Ran {
+        run(
+            &mut self.machine,
+            &self.image,
+            &self.map,
+            &mut self.store,
+            &mut self.outputs,
+            inputs,
+            n,
+        )
+        .expect("a run with 16 inputs after an accepted start is never refused")
+    }
+
+    pub fn machine(&self) -> &Machine {
+        &self.machine
+    }
+
+    pub fn outputs(&self) -> &[u16; CHANNELS] {
+        &self.outputs
+    }
+
+    pub fn store(&self) -> &[u16] {
+        &self.store
+    }
+
+    /// Load's depths, one byte an image byte, FF hex where unmarked.
+    pub fn map(&self) -> &[u8] {
+        &self.map
+    }
+}

@@ -32,10 +32,10 @@ module _ (image : List ℕ) (count : ℕ) (procs tables : List ℕ) (m : Module)
   followed-in (Fork q d r e) = refl
 
   -- the code reads a mark inside the map, with no default
-  pub mark-tested : (p : ℕ) (f : Flow) (ok : Bool) → p < length map → (getD map p 0 ≡ 255 → ⊥)
-      → f ≡ flowAt image (lightOf count procs tables) m p (getD map p 0) → ok ≡ followedIn map f
+  pub mark-tested : (p : ℕ) (ok : Bool) → p < length map → (getD map p 0 ≡ 255 → ⊥)
+      → ok ≡ followedIn map (flowAt image (lightOf count procs tables) m p (getD map p 0))
       → markFits (depthsOf image count procs tables m) map p ≡ ok
-  mark-tested p f ok l n e o = rw (getD-any map p 255 0 l, ne-eqb _ _ n, ← e) (sym (o ∙ followed-in f))
+  mark-tested p ok l n o = rw (getD-any map p 255 0 l, ne-eqb _ _ n) (sym (o ∙ followed-in (flowAt image (lightOf count procs tables) m p (getD map p 0))))
 
   pub mark-absent : (p : ℕ) → p < length map → getD map p 0 ≡ 255 → markFits (depthsOf image count procs tables m) map p ≡ true
   mark-absent p l e = rw (getD-any map p 255 0 l, eq-eqb _ _ e) refl

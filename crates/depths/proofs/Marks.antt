@@ -1,6 +1,6 @@
 -- The marks that the rules ask are depths, and so never the number that means unmarked; and what the lent lists say of a program.
 use mathlib.Core.Path.{_≡_, refl}
-use mathlib.Core.Bool.{Bool, true, false, false≢true}
+use mathlib.Core.Bool.{Bool, true, false}
 use mathlib.Core.List.{List, [], _∷_}
 use Prim.Native.Nat.{ℕ, zero, suc, _+_, _-_, _≤_, _<_}
 use native.Mathlib.Omega.{arith}
@@ -10,13 +10,12 @@ use borrow.Author.Tests.{ltb-true, ltb-false}
 use Rattle.mcode.specs.declared.Flow.{Flow}
 use Rattle.mcode.specs.declared.Flow.the-variants.{Fault, Ends, To, Fork}
 use Rattle.mcode.specs.declared.Module.{Module}
-use Rattle.mcode.specs.declared.Program.{Program}
 use Rattle.mcode.specs.Word.{pick, and, or}
 use Rattle.mcode.specs.Opcode.{lengths, takens, lefts}
 use Rattle.mcode.specs.Image.{noModule, codeByte, procCount, paramsOf, resultsOf}
 use Rattle.mcode.specs.Depths.{flowAt, onward, jumps, calls, callsIn, namesModule, target}
 use Rattle.mcode.specs.Layout.{Sound}
-use Rattle.depths.specs.Lent.{light, lights, lightOf, Placed, plain}
+use Rattle.depths.specs.Lent.{light, lights, lightOf, Placed}
 use Rattle.depths.proofs.Theory.{Real}
 
 pub light-at : (ps ts : List ℕ) (k : ℕ) → length ps ≡ length ts → getD (lights ps ts) k noModule ≡ light (getD ps k 0) (getD ts k 0)
@@ -26,10 +25,6 @@ light-at [] (t ∷ ts) k e = absurd (let z : ⊥ = omega (arith, e) in z)
 light-at (p ∷ ps) [] k e = absurd (let z : ⊥ = omega (arith, e) in z)
 light-at (p ∷ ps) (t ∷ ts) zero e = refl
 light-at (p ∷ ps) (t ∷ ts) (suc k) e = light-at ps ts k (omega (arith, e))
-
--- equal numbers give an equal flow
-pub cong5 : (f : ℕ → ℕ → ℕ → ℕ → ℕ → Flow) {a b c d e a′ b′ c′ d′ e′ : ℕ} → a ≡ a′ → b ≡ b′ → c ≡ c′ → d ≡ d′ → e ≡ e′ → f a b c d e ≡ f a′ b′ c′ d′ e′
-cong5 f p q r s t = rw (p, q, r, s, t) refl
 
 test : (b : Bool) (f g : Flow) → (b ≡ true → Real 255 f) → (b ≡ false → Real 255 g) → Real 255 (pick b f g)
 test true f g x y = x refl
@@ -83,14 +78,3 @@ module _ (image : List ℕ) (count : ℕ) (procs tables : List ℕ) (m : Module)
 
   pub real-entry : (k : ℕ) → k < procCount m → paramsOf image m k ≡ 255 → ⊥
   real-entry k l z = omega (arith, S .params k l, z)
-
--- a plain instruction goes on to the next one
-fourth : (a b c d : Bool) (f g h i j : Flow) → pick a false (pick b false (pick c false d)) ≡ true → pick a f (pick b g (pick c h (pick d i j))) ≡ i
-fourth true b c d f g h i j e = absurd (false≢true e)
-fourth false true c d f g h i j e = absurd (false≢true e)
-fourth false false true d f g h i j e = absurd (false≢true e)
-fourth false false false d f g h i j e = rw e refl
-
-pub plain-onward : (image : List ℕ) (program : Program) (m : Module) (p op b c n e : ℕ) → plain op ≡ true → onward image program m p op b c n e ≡ To n e
-unfolding onward
-plain-onward image program m p op b c n e h = fourth (or (eqb op 0o304) (eqb op 0o354)) (and (leb 0o30 op) (ltb op 0o40)) (namesModule op) (ltb op 0o355) Ends _ _ (To n e) _ h

@@ -5,7 +5,7 @@ use Prim.Native.Nat.{ℕ, _+_, _-_, _≤_, _<_}
 use native.Mathlib.Omega.{arith}
 use native.Mathlib.Nat.{le-trans}
 use lib.ListN.{length, getD, take, drop, length-take, length-drop}
-use lib.Seq.{length-take-le, take-at, drop-at, getD-take, getD-drop, ext-getD}
+use lib.Seq.{length-take-le, take-all, take-at, drop-at, getD-take, getD-drop, ext-getD}
 use borrow.Rule.Slice.PartMut.{putMid, postOf, take-put, drop-put}
 
 -- the elements of xs from a up to e
@@ -17,6 +17,10 @@ length-part xs a e h = simp (length-take, length-drop) (omega arith)
 
 pub part-at : (xs : List ℕ) (a e i d : ℕ) → i < e - a → getD (part xs a e) i d ≡ getD xs (a + i) d
 part-at xs a e i d h = rw (getD-take, getD-drop)
+
+-- the part up to the end
+pub part-rest : (xs : List ℕ) (a : ℕ) → part xs a (length xs) ≡ drop a xs
+part-rest xs a = take-all (length xs - a) (drop a xs) (omega (arith, length-drop a xs))
 
 -- parts of two lists that agree there are equal
 pub part-same : (xs zs : List ℕ) (a e : ℕ) → e ≤ length xs → e ≤ length zs → ((p : ℕ) → a ≤ p → p < e → getD xs p 0 ≡ getD zs p 0) → part xs a e ≡ part zs a e

@@ -4,12 +4,9 @@ use Prim.Native.Nat.{ℕ, _≤_, _<_}
 use mathlib.Core.Path.{_≡_}
 use mathlib.Core.List.{List, [], _∷_}
 use lib.ListN.{length, getD}
-use lib.Dec.{ltb, leb, eqb}
-use mathlib.Core.Bool.{Bool, false}
-use Rattle.mcode.specs.Word.{pick, and, or}
 use Rattle.mcode.specs.Opcode.{lengths, takens, lefts}
 use Rattle.mcode.specs.Image.{moduleOf, procCount, resultsOf}
-use Rattle.mcode.specs.Depths.{Analysis, depths, namesModule}
+use Rattle.mcode.specs.Depths.{Analysis, depths}
 use Rattle.mcode.specs.Layout.{Sound}
 use Rattle.mcode.specs.declared.Module.{Module}
 use Rattle.mcode.specs.declared.Program.{Program}
@@ -53,7 +50,3 @@ pub record Ready (image : List ℕ) (count : ℕ) (procs tables : List ℕ) (m :
   pub sizes-are : sizes ≡ lengths
   pub takes-are : takes ≡ takens
   pub leaves-are : leaves ≡ lefts
-
--- an instruction whose only successor is the next one, in the order of `onward`'s tests
-abbrev pub plain : ℕ → Bool
-plain op = pick (or (eqb op 0o304) (eqb op 0o354)) false (pick (and (leb 0o30 op) (ltb op 0o40)) false (pick (namesModule op) false (ltb op 0o355)))

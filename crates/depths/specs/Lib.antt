@@ -1,3 +1,4 @@
+pub mod Cases
 pub mod Lent
 pub mod Queue
 pub mod Test

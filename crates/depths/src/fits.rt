@@ -1,28 +1,37 @@
 // The test of a map that anybody lends: refusal 12. Marks beyond the fewest are allowed.
 use crate::records::records_of;
+use crate::rules::Row;
+use crate::rules::byte_at;
+use crate::rules::ends;
 use crate::rules::entry_of;
-use crate::rules::flow_at;
+use crate::rules::is_jump;
+use crate::rules::is_plain;
+use crate::rules::jump;
+use crate::rules::onward_at;
 use crate::rules::params_of;
 use crate::rules::proc_count;
+use crate::rules::row_at;
+use crate::rules::target_at;
 use mcode::Flow;
 use mcode::Module;
 use mcode::Program;
 ghost use mathlib.Core.Path.{_≡_};
-ghost use Prim.Native.Nat.{_≤_};
-ghost use lib.ListN.{length, getD};
-ghost use Rattle.mcode.specs.Depths.{fits, mapFits};
+ghost use Prim.Native.Nat.{_≤_, _<_};
+ghost use lib.ListN.{length, getD, drop};
+ghost use lib.Dec.{eqb};
+ghost use Rattle.mcode.specs.Depths.{fits, flowAt, mapFits};
 ghost use Rattle.mcode.specs.Layout.{Told};
-ghost use Rattle.depths.specs.Lent.{depthsOf, Ready};
+ghost use Rattle.depths.specs.Lent.{lightOf, depthsOf, Ready};
 ghost use Rattle.depths.specs.Test as test;
 
-// The mark at q; unmarked outside.
-fn mark_at(map: &[u8], q: usize) -> u8
-    ensures { λ r. ⌜ r ≡ getD (now (map .entry)) q 255 ⌝ }
+// Whether position q has the mark d; one outside is unmarked.
+fn has_mark(map: &[u8], q: usize, d: u8) -> bool
+    ensures { λ r. ⌜ r ≡ eqb (getD (now (map .entry)) q 255) d ⌝ }
 {
     if q < map.len() {
-        return map[q];
+        return map[q] == d;
     }
-    255
+    255 == d
 }
 
 // Whether the successors have the marks that f asks.
@@ -32,10 +41,10 @@ fn follows(map: &[u8], f: Flow) -> bool
     match f {
         Flow::Fault => false,
         Flow::Ends => true,
-        Flow::To(q, d) => mark_at(map, q) == d,
+        Flow::To(q, d) => has_mark(map, q, d),
         Flow::Fork(q, d, r, e) => {
-            if mark_at(map, q) == d {
-                return mark_at(map, r) == e;
+            if has_mark(map, q, d) {
+                return has_mark(map, r, e);
             }
             false
         }
@@ -52,8 +61,8 @@ fn entries_fit(image: &[u8], map: &[u8], m: Module) -> bool
     while i < n {
         let q = entry_of(image, m, i);
         let d = params_of(image, m, i);
-        let x = mark_at(map, q);
-        if x != d {
+        let ok = has_mark(map, q, d);
+        if !ok {
             return false;
         }
         i += 1;
@@ -61,9 +70,54 @@ fn entries_fit(image: &[u8], map: &[u8], m: Module) -> bool
     true
 }
 
+// Whether position p, of mark d, follows the rules. `code` is the image from the module's code on. It goes the way of `flow_at`, but
+// looks at the marks at once, so that either has one caller and is compiled in line.
+fn position_fits(
+    image: &[u8],
+    code: &[u8],
+    map: &[u8],
+    p: usize,
+    d: u8,
+    count: usize,
+    procs: &[u16; 32],
+    tables: &[usize; 32],
+    m: Module,
+    sizes: &[u8; 256],
+    takes: &[u8; 256],
+    leaves: &[u8; 256],
+) -> bool
+    requires { ⌜ (p < m .length) × (length (now map) ≡ m .length) × (now code ≡ drop (m .code) (now image)) ⌝ }
+    requires { ⌜ Ready (now image) count (now procs) (now tables) m (now sizes) (now takes) (now leaves) ⌝ }
+    ensures { λ r. ⌜ r ≡ test.followedIn (now (map .entry)) (flowAt (now (image .entry)) (lightOf count (now (procs .entry)) (now (tables .entry))) m p d) ⌝ }
+{
+    let op = code[p];
+    let row = row_at(op, p, d, map.len(), sizes, takes, leaves);
+    match row {
+        Row::Unfit => false,
+        Row::Next(n, e) => {
+            if is_jump(op) {
+                let t = target_at(code, p + 1, op, p + 1);
+                let f = jump(op, t, n, e);
+                return follows(map, f);
+            }
+            if ends(op) {
+                return true;
+            }
+            if is_plain(op) {
+                return has_mark(map, n, e);
+            }
+            let b = byte_at(code, p + 1);
+            let c = byte_at(code, p + 2);
+            let f = onward_at(image, op, b, c, n, e, count, procs, tables, m);
+            follows(map, f)
+        }
+    }
+}
+
 // Whether each marked position follows the rules.
 fn marks_fit(
     image: &[u8],
+    code: &[u8],
     map: &[u8],
     count: usize,
     procs: &[u16; 32],
@@ -74,15 +128,27 @@ fn marks_fit(
     leaves: &[u8; 256],
 ) -> bool
     requires { ⌜ Ready (now image) count (now procs) (now tables) m (now sizes) (now takes) (now leaves) ⌝ }
-    requires { ⌜ length (now map) ≡ m .length ⌝ }
+    requires { ⌜ (length (now map) ≡ m .length) × (now code ≡ drop (m .code) (now image)) ⌝ }
     ensures { λ r. ⌜ r ≡ test.marksFit (depthsOf (now (image .entry)) count (now (procs .entry)) (now (tables .entry)) m) (now (map .entry)) ⌝ }
 {
     let mut p: usize = 0;
     while p < map.len() {
         let d = map[p];
         if d != 255 {
-            let f = flow_at(image, p, d, count, procs, tables, m, sizes, takes, leaves);
-            let ok = follows(map, f);
+            let ok = position_fits(
+                image,
+                code,
+                map,
+                p,
+                d,
+                count,
+                procs,
+                tables,
+                m,
+                sizes,
+                takes,
+                leaves,
+            );
             if !ok {
                 return false;
             }
@@ -109,7 +175,20 @@ fn part_fits(
     ensures { λ r. ⌜ r ≡ fits (depthsOf (now (image .entry)) count (now (procs .entry)) (now (tables .entry)) m) (now (map .entry)) ⌝ }
 {
     if entries_fit(image, map, m) {
-        return marks_fit(image, map, count, procs, tables, m, sizes, takes, leaves);
+        let a = m.code;
+        let code = &image[a..image.len()];
+        return marks_fit(
+            image,
+            code,
+            map,
+            count,
+            procs,
+            tables,
+            m,
+            sizes,
+            takes,
+            leaves,
+        );
     }
     false
 }

@@ -2,14 +2,16 @@
 use mcode::Flow;
 use mcode::Module;
 ghost use mathlib.Core.Path.{_≡_};
-ghost use Prim.Native.Nat.{_+_, _-_, _*_, _≤_, _<_};
+ghost use mathlib.Core.Bool.{false};
+ghost use Prim.Native.Nat.{ℕ, _+_, _-_, _*_, _≤_, _<_};
 ghost use lib.ListN.{length, getD};
-ghost use lib.Dec.{ltb, leb, eqb};
-ghost use Rattle.mcode.specs.Word.{byte, word, or, and};
+ghost use lib.Dec.{leb};
+ghost use Rattle.mcode.specs.Word.{pick, byte};
 ghost use Rattle.mcode.specs.Opcode.{lengths, takens, lefts};
 ghost use Rattle.mcode.specs.Image.{moduleOf, procCount, entryOf, paramsOf, resultsOf};
 ghost use Rattle.mcode.specs.Depths.{target, jumps, calls, callsIn, namesModule, onward, flowAt};
-ghost use Rattle.depths.specs.Lent.{lightOf, plain, Placed, Ready};
+ghost use Rattle.depths.specs.Cases.{rowAt, jumping, ending, plain};
+ghost use Rattle.depths.specs.Lent.{lightOf, Placed, Ready};
 
 // A byte as a number.
 pub fn wide(x: u8) -> usize
@@ -41,7 +43,7 @@ fn left_of(t: &[u8; 256], op: u8) -> usize
 }
 
 // A byte of s; 0 outside.
-fn byte_at(s: &[u8], i: usize) -> u8
+pub fn byte_at(s: &[u8], i: usize) -> u8
     ensures { λ r. ⌜ r ≡ byte (now (s .entry)) i ⌝ }
 {
     if i < s.len() {
@@ -93,12 +95,15 @@ fn results_of(image: &[u8], m: Module, i: usize) -> u8
     byte_at(image, m.table + 4 * i + 3)
 }
 
-// The target of the jump op whose operand begins at s. One below 0 wraps to 32,768 or more, outside of any code.
-fn target_at(op: u8, s: usize, b: u8, c: u8) -> usize
-    requires { ⌜ s < 65536 ⌝ }
-    ensures { λ r. ⌜ r ≡ target op s b c ⌝ }
+// The target of the jump op whose operand begins at position s, which is `at` in the lent bytes. One below 0 wraps to 32,768 or more,
+// outside of any code.
+pub fn target_at(code: &[u8], at: usize, op: u8, s: usize) -> usize
+    requires { ⌜ (at < 131072) × (s < 65536) ⌝ }
+    ensures { λ r. ⌜ r ≡ target op s (byte (now (code .entry)) at) (byte (now (code .entry)) (at + 1)) ⌝ }
 {
+    let b = byte_at(code, at);
     if op < 0o32 {
+        let c = byte_at(code, at + 1);
         return (s + (wide(b) * 256 + wide(c))) % 65536;
     }
     if op == 0o34 {
@@ -121,7 +126,7 @@ fn less_one(e: u8) -> u8
 }
 
 // After the jump op to t, with the next instruction at n and the depth e that its row says.
-fn jump(op: u8, t: usize, n: usize, e: u8) -> Flow
+pub fn jump(op: u8, t: usize, n: usize, e: u8) -> Flow
     ensures { λ r. ⌜ r ≡ jumps op t n e ⌝ }
 {
     if 0o36 <= op {
@@ -183,8 +188,8 @@ fn call_in(
 }
 
 // TRAP and RTN have no successor.
-fn ends(op: u8) -> bool
-    ensures { λ r. ⌜ r ≡ or (eqb op 0o304) (eqb op 0o354) ⌝ }
+pub fn ends(op: u8) -> bool
+    ensures { λ r. ⌜ r ≡ ending op ⌝ }
 {
     if op == 0o304 {
         return true;
@@ -196,8 +201,8 @@ fn ends(op: u8) -> bool
 }
 
 // 030 to 037.
-fn is_jump(op: u8) -> bool
-    ensures { λ r. ⌜ r ≡ and (leb 0o30 op) (ltb op 0o40) ⌝ }
+pub fn is_jump(op: u8) -> bool
+    ensures { λ r. ⌜ r ≡ jumping op ⌝ }
 {
     if op < 0o30 {
         return false;
@@ -224,26 +229,30 @@ fn names_module(op: u8) -> bool
     false
 }
 
-// An instruction whose only successor is the next one: none of these, and no call.
-fn is_plain(op: u8) -> bool
+// Whether an instruction that is no jump and has a successor only goes on to the next one: it names no module, and is no call.
+pub fn is_plain(op: u8) -> bool
     ensures { λ r. ⌜ r ≡ plain op ⌝ }
 {
-    if ends(op) {
-        return false;
-    }
-    if is_jump(op) {
-        return false;
-    }
     if names_module(op) {
         return false;
     }
     op < 0o355
 }
 
-// After a listed instruction op whose operand bytes are b and c, with the next one at n and the depth e that its row says.
-fn onward_at(
+// The procedure that a call inside the module names.
+fn callee_of(op: u8, b: u8) -> usize
+    ensures { λ r. ⌜ (r ≡ pick (leb op 0o360) b (op - 0o360)) × (r < 256) ⌝ }
+{
+    if op <= 0o360 {
+        return wide(b);
+    }
+    wide(op) - 0o360
+}
+
+// After any other listed instruction op, whose operand bytes are b and c, with the next one at n and the depth e that its row says.
+// Only a jump depends on its position p. This is small enough to be compiled in line in both callers.
+pub fn onward_at(
     image: &[u8],
-    p: usize,
     op: u8,
     b: u8,
     c: u8,
@@ -254,37 +263,68 @@ fn onward_at(
     tables: &[usize; 32],
     m: Module,
 ) -> Flow
-    requires { ⌜ p < 65535 ⌝ }
+    requires { ⌜ (jumping op ≡ false) × (ending op ≡ false) × (plain op ≡ false) ⌝ }
     requires { ⌜ m .table ≤ 65535 ⌝ }
     requires { ⌜ Placed (now image) count (now procs) (now tables) ⌝ }
-    ensures { λ r. ⌜ r ≡ onward (now (image .entry)) (lightOf count (now (procs .entry)) (now (tables .entry))) m p op b c n e ⌝ }
+    ensures { λ r. ⌜ ((p : ℕ) → r ≡ onward (now (image .entry)) (lightOf count (now (procs .entry)) (now (tables .entry))) m p op b c n e) ⌝ }
 {
-    if ends(op) {
-        return Flow::Ends;
-    }
-    if is_jump(op) {
-        let t = target_at(op, p + 1, b, c);
-        return jump(op, t, n, e);
-    }
-    if names_module(op) {
+    if op < 0o355 {
         if wide(b) < count {
             return Flow::To(n, e);
         }
         return Flow::Fault;
     }
-    if op < 0o355 {
-        return Flow::To(n, e);
-    }
     if op == 0o355 {
         return call_in(image, wide(b), wide(c), n, e, count, procs, tables);
     }
-    if op <= 0o360 {
-        return call(image, m, wide(b), n, e);
-    }
-    call(image, m, wide(op) - 0o360, n, e)
+    call(image, m, callee_of(op, b), n, e)
 }
 
-// What follows position p of module m at depth d.
+// The next position and the depth that an instruction's row says, where its opcode is listed, its operands lie in the code, and both
+// depths are possible.
+pub enum Row {
+    Unfit,
+    Next(usize, u8),
+}
+
+// The row of op at position p of a code of `length` bytes, at depth d.
+pub fn row_at(
+    op: u8,
+    p: usize,
+    d: u8,
+    length: usize,
+    sizes: &[u8; 256],
+    takes: &[u8; 256],
+    leaves: &[u8; 256],
+) -> Row
+    requires { ⌜ p < 65536 ⌝ }
+    requires { ⌜ (now sizes ≡ lengths) × (now takes ≡ takens) × (now leaves ≡ lefts) ⌝ }
+    ensures { λ r. ⌜ r ≡ rowAt op p d length ⌝ }
+{
+    if 16 < d {
+        return Row::Unfit;
+    }
+    let size = length_of(sizes, op);
+    let taken = taken_of(takes, op);
+    let depth = wide(d);
+    if size == 0 {
+        return Row::Unfit;
+    }
+    let n = p + size;
+    if length < n {
+        return Row::Unfit;
+    }
+    if depth < taken {
+        return Row::Unfit;
+    }
+    let e = depth - taken + left_of(leaves, op);
+    if 16 < e {
+        return Row::Unfit;
+    }
+    Row::Next(n, e as u8)
+}
+
+// What follows position p of module m at depth d. It has one caller, so that it is compiled in line there.
 pub fn flow_at(
     image: &[u8],
     p: usize,
@@ -301,31 +341,24 @@ pub fn flow_at(
     requires { ⌜ Ready (now image) count (now procs) (now tables) m (now sizes) (now takes) (now leaves) ⌝ }
     ensures { λ r. ⌜ r ≡ flowAt (now (image .entry)) (lightOf count (now (procs .entry)) (now (tables .entry))) m p d ⌝ }
 {
-    if 16 < d {
-        return Flow::Fault;
-    }
     let op = byte_at(image, m.code + p);
-    let size = length_of(sizes, op);
-    let taken = taken_of(takes, op);
-    let depth = wide(d);
-    if size == 0 {
-        return Flow::Fault;
+    let row = row_at(op, p, d, m.length as usize, sizes, takes, leaves);
+    match row {
+        Row::Unfit => Flow::Fault,
+        Row::Next(n, e) => {
+            if is_jump(op) {
+                let t = target_at(image, m.code + (p + 1), op, p + 1);
+                return jump(op, t, n, e);
+            }
+            if ends(op) {
+                return Flow::Ends;
+            }
+            if is_plain(op) {
+                return Flow::To(n, e);
+            }
+            let b = byte_at(image, m.code + (p + 1));
+            let c = byte_at(image, m.code + (p + 2));
+            onward_at(image, op, b, c, n, e, count, procs, tables, m)
+        }
     }
-    let n = p + size;
-    if (m.length as usize) < n {
-        return Flow::Fault;
-    }
-    if depth < taken {
-        return Flow::Fault;
-    }
-    let e = depth - taken + left_of(leaves, op);
-    if 16 < e {
-        return Flow::Fault;
-    }
-    if is_plain(op) {
-        return Flow::To(n, e as u8);
-    }
-    let b = byte_at(image, m.code + (p + 1));
-    let c = byte_at(image, m.code + (p + 2));
-    onward_at(image, p, op, b, c, n, e as u8, count, procs, tables, m)
 }

@@ -1,15 +1,16 @@
 -- The test of the entries; the loop keeps that those before i fit.
-use mathlib.Core.Path.{_≡_, sym, ap, _∙_}
+use mathlib.Core.Path.{_≡_, sym, ap₂, _∙_}
 use mathlib.Core.Bool.{true}
 use Prim.Native.Nat.{ℕ, _-_, _≤_, _<_}
 use lib.ListN.{getD}
+use lib.Dec.{eqb}
 use borrow.Author.Count.{below-more, below-none}
+use borrow.Author.Tests.{not-true, not-false}
 use Rattle.mcode.specs.Image.{procCount}
 use Rattle.mcode.proofs.Tests.{at-all}
 use Rattle.depths.specs.Test.{entryFits}
 use Rattle.depths.proofs.Bools.{one-fails}
 use native.Mathlib.Omega.{arith}
-use borrow.Author.Tests.{ne-eqb, eq-eqb}
 use borrow.Author.Needs.{needs}
 use Rattle.depths.proofs.fits.entries_fit.Statement.{statement}
 use Rattle.depths.proofs.fits.entries_fit.Tie as tie
@@ -32,16 +33,15 @@ entry-of-requires c κs = (omega (arith, c .before .before .proc-count .ensures 
 params-of-requires : tie.Need-params-of-requires Inv-loop μ-loop
 params-of-requires c κs = (omega (arith, c .before .before .before .proc-count .ensures .1), c .before .before .before .before .before .before .pre)
 
-mark-at-requires : tie.Need-mark-at-requires Inv-loop μ-loop
-mark-at-requires c κs = search needs
+has-mark-requires : tie.Need-has-mark-requires Inv-loop μ-loop
+has-mark-requires c κs = search needs
 
 returns : tie.Need-returns Inv-loop μ-loop
 returns c =
     let a = c .before .before .before .before .before .before .before .before .before .args in
-    let e = c .before .mark-at .ensures ∙ ap (λ (q : ℕ). getD (a .map .now) q 255) (c .before .before .before .entry-of .ensures) in
+    let e = ap₂ (λ (q d : ℕ). eqb (getD (a .map .now) q 255) d) (sym (c .before .before .before .entry-of .ensures)) (sym (c .before .before .params-of .ensures)) ∙ sym (c .before .has-mark .ensures) in
     sym (one-fails (procCount (a .m)) (entryFits (a .image .now) (a .m) (a .map .now)) (c .before .before .before .before .before .loop .i)
-    (omega (arith, c .before .before .before .before .before .before .proc-count .ensures .0, c .before .before .before .before .loop-test .taken))
-    (ne-eqb _ _ (λ z. c .if1 .taken (e ∙ z ∙ sym (c .before .before .params-of .ensures)))))
+    (omega (arith, c .before .before .before .before .before .before .proc-count .ensures .0, c .before .before .before .before .loop-test .taken)) (e ∙ not-true (c .before .has-mark .result) (c .if1 .taken)))
 
 add-i : tie.Need-add-i Inv-loop μ-loop
 add-i c = search needs
@@ -52,10 +52,9 @@ loop-less c = search needs
 loop-again : tie.Need-loop-again Inv-loop μ-loop
 loop-again c =
     let a = c .before .before .before .before .before .before .before .before .before .args in
-    let e = c .before .mark-at .ensures ∙ ap (λ (q : ℕ). getD (a .map .now) q 255) (c .before .before .before .entry-of .ensures) in (
+    let e = ap₂ (λ (q d : ℕ). eqb (getD (a .map .now) q 255) d) (sym (c .before .before .before .entry-of .ensures)) (sym (c .before .before .params-of .ensures)) ∙ sym (c .before .has-mark .ensures) in (
       omega arith,
-      below-more (λ (j : ℕ). entryFits (a .image .now) (a .m) (a .map .now) j ≡ true) (c .before .before .before .before .before .loop .i) (c .before .before .before .before .before .loop .inv .1)
-          (eq-eqb _ _ (sym e ∙ c .if1 .left ∙ c .before .before .params-of .ensures)),
+      below-more (λ (j : ℕ). entryFits (a .image .now) (a .m) (a .map .now) j ≡ true) (c .before .before .before .before .before .loop .i) (c .before .before .before .before .before .loop .inv .1) (e ∙ not-false (c .before .has-mark .result) (c .if1 .left)),
     )
 
 returns-2 : tie.Need-returns-2 Inv-loop μ-loop
@@ -73,7 +72,7 @@ entries-fit-spec =
     loop-holds
     entry-of-requires
     params-of-requires
-    mark-at-requires
+    has-mark-requires
     returns
     add-i
     loop-less

@@ -16,11 +16,11 @@ use Rattle.depths.proofs.fits.marks_fit.Statement.{statement}
 use Rattle.depths.proofs.fits.marks_fit.Tie as tie
 
 abbrev Inv-loop : tie.InvT-loop
-Inv-loop image map count procs tables m sizes takes leaves p₀ p =
+Inv-loop image code map count procs tables m sizes takes leaves p₀ p =
     (p ≤ length map) × ((j : ℕ) → j < p → markFits (depthsOf image count procs tables m) map j ≡ true)
 
 abbrev μ-loop : tie.MeasureT-loop
-μ-loop image map count procs tables m sizes takes leaves p₀ p = length map - p
+μ-loop image code map count procs tables m sizes takes leaves p₀ p = length map - p
 
 loop-holds : tie.Need-loop-holds Inv-loop μ-loop
 loop-holds c = (omega arith, below-none _)
@@ -28,19 +28,16 @@ loop-holds c = (omega arith, below-none _)
 shared-slice-read-d : tie.Need-shared-slice-read-d Inv-loop μ-loop
 shared-slice-read-d c = search needs
 
-flow-at-requires : tie.Need-flow-at-requires Inv-loop μ-loop
-flow-at-requires c κs = (omega (arith, c .before .before .before .before .before .before .pre .1), c .before .before .before .before .before .before .pre .0)
-
-follows-requires : tie.Need-follows-requires Inv-loop μ-loop
-follows-requires c κs = search needs
+position-fits-requires : tie.Need-position-fits-requires Inv-loop μ-loop
+position-fits-requires c κs = ((omega (arith, c .before .before .before .before .before .before .before .pre .1 .0, c .before .before .loop-test .taken), c .before .before .before .before .before .before .before .pre .1 .0, c .before .before .before .before .before .before .before .pre .1 .1), c .before .before .before .before .before .before .before .pre .0)
 
 returns : tie.Need-returns Inv-loop μ-loop
 returns c =
     let a = c .before .before .before .before .before .before .before .before .before .args in
     let A = depthsOf (a .image .now) (a .count) (a .procs .now) (a .tables .now) (a .m) in
-    sym (one-fails (A .size) (markFits A (a .map .now)) (c .before .before .before .before .before .before .loop .p) (omega (arith, c .before .before .before .before .before .before .before .before .before .pre .1, c .before .before .before .before .before .loop-test .taken))
-    (mark-tested (a .image .now) (a .count) (a .procs .now) (a .tables .now) (a .m) (a .map .now) (c .before .before .before .before .before .before .loop .p) _ _ (c .before .before .before .before .before .loop-test .taken) (c .before .before .before .if1 .taken) (c .before .before .flow-at .ensures) (c .before .follows .ensures)
-    ∙ not-true (c .before .follows .result) (c .if2 .taken)))
+    sym (one-fails (A .size) (markFits A (a .map .now)) (c .before .before .before .before .before .loop .p) (omega (arith, c .before .before .before .before .before .before .before .before .before .pre .1 .0, c .before .before .before .before .loop-test .taken))
+    (mark-tested (a .image .now) (a .count) (a .procs .now) (a .tables .now) (a .m) (a .map .now) (c .before .before .before .before .before .loop .p) _ (c .before .before .before .before .loop-test .taken) (c .before .before .if1 .taken) (c .before .position-fits .ensures)
+    ∙ not-true (c .before .position-fits .result) (c .if2 .taken)))
 
 add-p : tie.Need-add-p Inv-loop μ-loop
 add-p c = search needs
@@ -50,21 +47,21 @@ loop-less c = search needs
 
 loop-again : tie.Need-loop-again Inv-loop μ-loop
 loop-again c =
-    let a = c .before .before .before .before .before .before .args in
+    let a = c .before .before .before .before .before .before .before .args in
     let A = depthsOf (a .image .now) (a .count) (a .procs .now) (a .tables .now) (a .m) in (
       omega arith,
       below-more (λ (j : ℕ). markFits A (a .map .now) j ≡ true) (c .before .before .before .loop .p) (c .before .before .before .loop .inv .1)
           (⊎-elim
-          (λ w. mark-tested (a .image .now) (a .count) (a .procs .now) (a .tables .now) (a .m) (a .map .now) (c .before .before .before .loop .p) _ _ (c .before .before .loop-test .taken) (w .0 .taken) (w .1 .ensures) (w .2 .ensures)
-          ∙ not-false (w .2 .result) (w .3 .left))
+          (λ w. mark-tested (a .image .now) (a .count) (a .procs .now) (a .tables .now) (a .m) (a .map .now) (c .before .before .before .loop .p) _ (c .before .before .loop-test .taken) (w .0 .taken) (w .1 .ensures)
+          ∙ not-false (w .1 .result) (w .2 .left))
           (λ w. mark-absent (a .image .now) (a .count) (a .procs .now) (a .tables .now) (a .m) (a .map .now) (c .before .before .before .loop .p) (c .before .before .loop-test .taken) (w .left)) (c .if1 .came)),
     )
 
 returns-2 : tie.Need-returns-2 Inv-loop μ-loop
 returns-2 c =
-    let a = c .before .before .before .before .args in
+    let a = c .before .before .before .before .before .args in
     let A = depthsOf (a .image .now) (a .count) (a .procs .now) (a .tables .now) (a .m) in
-    sym (at-all (A .size) (markFits A (a .map .now)) (λ j l. c .before .loop .inv .1 j (omega (arith, c .before .before .before .before .pre .1, c .loop-test .left))))
+    sym (at-all (A .size) (markFits A (a .map .now)) (λ j l. c .before .loop .inv .1 j (omega (arith, c .before .before .before .before .before .pre .1 .0, c .loop-test .left))))
 
 pub marks-fit-spec : {M : Type 1} → statement M
 marks-fit-spec =
@@ -74,8 +71,7 @@ marks-fit-spec =
     μ-loop
     loop-holds
     shared-slice-read-d
-    flow-at-requires
-    follows-requires
+    position-fits-requires
     returns
     add-p
     loop-less

@@ -1,11 +1,20 @@
 -- The target of a jump, modulo 65,536.
-use mathlib.Core.Path.{ap, ap₂}
+use mathlib.Core.Path.{ap, ap₂, _∙_}
 use Prim.Native.Nat.{ℕ, _+_, _-_, _*_, _%_}
 use Rattle.mcode.specs.Depths.{target}
 use borrow.Author.Tests.{ne-eqb, lt-ltb, le-ltb, eq-eqb}
 use borrow.Author.Needs.{needs}
 use Rattle.depths.proofs.rules.target_at.Statement.{statement}
 use Rattle.depths.proofs.rules.target_at.Tie as tie
+
+byte-at-requires : tie.Need-byte-at-requires
+byte-at-requires c κs = search needs
+
+add-byte-at : tie.Need-add-byte-at
+add-byte-at c = search needs
+
+byte-at-requires-2 : tie.Need-byte-at-requires-2
+byte-at-requires-2 c κs = search needs
 
 wide-requires : tie.Need-wide-requires
 wide-requires c κs = search needs
@@ -24,7 +33,7 @@ add-result-2 c = search needs
 
 returns : tie.Need-returns
 unfolding target
-returns c = simp (lt-ltb _ _ (c .before .before .if1 .taken)) (ap₂ (λ (h l : ℕ). (c .before .before .before .args .s + (h * 256 + l)) % 65536) (c .before .wide .ensures .0) (c .wide2 .ensures .0))
+returns c = simp (lt-ltb _ _ (c .before .before .before .if1 .taken)) (ap₂ (λ (h l : ℕ). (c .before .before .before .before .before .before .args .s + (h * 256 + l)) % 65536) (c .before .wide .ensures .0 ∙ c .before .before .before .before .byte-at .ensures) (c .wide2 .ensures .0 ∙ c .before .before .byte-at2 .ensures))
 
 wide-requires-3 : tie.Need-wide-requires-3
 wide-requires-3 c κs = search needs
@@ -37,7 +46,7 @@ add-result-3 c = search needs
 
 returns-2 : tie.Need-returns-2
 unfolding target
-returns-2 c = simp (le-ltb _ _ (c .before .before .if1 .left), eq-eqb _ _ (c .before .if2 .taken)) (ap (λ (h : ℕ). (c .before .before .before .args .s + (65536 - h)) % 65536) (c .wide3 .ensures .0))
+returns-2 c = simp (le-ltb _ _ (c .before .before .if1 .left), eq-eqb _ _ (c .before .if2 .taken)) (ap (λ (h : ℕ). (c .before .before .before .before .before .args .s + (65536 - h)) % 65536) (c .wide3 .ensures .0 ∙ c .before .before .before .byte-at .ensures))
 
 wide-requires-4 : tie.Need-wide-requires-4
 wide-requires-4 c κs = search needs
@@ -50,7 +59,7 @@ add-result-4 c = search needs
 
 returns-3 : tie.Need-returns-3
 unfolding target
-returns-3 c = simp (le-ltb _ _ (c .before .before .before .if1 .left), ne-eqb _ _ (c .before .before .if2 .left), eq-eqb _ _ (c .before .if3 .taken)) (ap (λ (h : ℕ). (c .before .before .before .before .args .s + (65536 - h)) % 65536) (c .wide4 .ensures .0))
+returns-3 c = simp (le-ltb _ _ (c .before .before .before .if1 .left), ne-eqb _ _ (c .before .before .if2 .left), eq-eqb _ _ (c .before .if3 .taken)) (ap (λ (h : ℕ). (c .before .before .before .before .before .before .args .s + (65536 - h)) % 65536) (c .wide4 .ensures .0 ∙ c .before .before .before .before .byte-at .ensures))
 
 wide-requires-5 : tie.Need-wide-requires-5
 wide-requires-5 c κs = search needs
@@ -60,12 +69,15 @@ add-result-5 c = search needs
 
 returns-4 : tie.Need-returns-4
 unfolding target
-returns-4 c = simp (le-ltb _ _ (c .before .before .before .if1 .left), ne-eqb _ _ (c .before .before .if2 .left), ne-eqb _ _ (c .before .if3 .left)) (ap (λ (h : ℕ). (c .before .before .before .before .args .s + h) % 65536) (c .wide5 .ensures .0))
+returns-4 c = simp (le-ltb _ _ (c .before .before .before .if1 .left), ne-eqb _ _ (c .before .before .if2 .left), ne-eqb _ _ (c .before .if3 .left)) (ap (λ (h : ℕ). (c .before .before .before .before .before .before .args .s + h) % 65536) (c .wide5 .ensures .0 ∙ c .before .before .before .before .byte-at .ensures))
 
 pub target-at-spec : {M : Type 1} → statement M
 target-at-spec =
     tie.close
     (tie.spec
+    byte-at-requires
+    add-byte-at
+    byte-at-requires-2
     wide-requires
     mul-result
     wide-requires-2

@@ -1,0 +1,33 @@
+-- The cases in which the code takes the rules of an instruction. mcode's specs/Depths.antt has the rules, and every function's contract
+-- says what it answers by them.
+use Prim.Native.Nat.{ℕ, _+_, _-_}
+use mathlib.Core.Bool.{Bool, false}
+use lib.ListN.{getD}
+use lib.Dec.{ltb, leb, eqb}
+use Rattle.mcode.specs.Word.{pick, and, or}
+use Rattle.mcode.specs.Opcode.{lengths, takens, lefts}
+use Rattle.mcode.specs.Depths.{namesModule}
+use Rattle.depths.specs.declared.rules.Row.{Row}
+use Rattle.depths.specs.declared.rules.Row.the-variants.{Unfit, Next}
+
+-- the row of op at position p of a code of `size` bytes, at depth d: `flowAt`'s tests, in its order
+unfoldable pub rowAt : ℕ → ℕ → ℕ → ℕ → Row
+rowAt op p d size =
+    let taken = getD takens op 0 in
+    let e = d - taken + getD lefts op 0 in
+    pick (ltb 16 d) Unfit
+    (pick (eqb (getD lengths op 0) 0) Unfit
+    (pick (ltb size (p + getD lengths op 0)) Unfit
+    (pick (ltb d taken) Unfit
+    (pick (ltb 16 e) Unfit
+    (Next (p + getD lengths op 0) e)))))
+
+-- the cases of `onward`: a jump, an instruction with no successor, and one whose only successor is the next one
+abbrev pub jumping : ℕ → Bool
+jumping op = and (leb 0o30 op) (ltb op 0o40)
+
+abbrev pub ending : ℕ → Bool
+ending op = or (eqb op 0o304) (eqb op 0o354)
+
+abbrev pub plain : ℕ → Bool
+plain op = pick (namesModule op) false (ltb op 0o355)

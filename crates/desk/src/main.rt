@@ -1,6 +1,6 @@
 // The desk program: reads an image from standard input and prints "A whole reading" of it: W = 4,096, inputs 0, outputs first 0,
 // n = 1,000. A refusal prints one line: `refused` and its number.
-use engine::reading::reading;
+use in_place::reading::reading;
 use mcode::Ending;
 use mcode::Machine;
 use mcode::Stop;

@@ -72,3 +72,17 @@ first-entry {image} {program} T =
 -- refusal 9, passed
 pub store-fits-so : (end w : ℕ) → and (leb (end + 36) w) (leb w 65535) ≡ true → (end + 36 ≤ w) × (w ≤ 65535)
 store-fits-so end w f = let (a, b) = and-both (leb (end + 36) w) (leb w 65535) f in (leb-true (end + 36) w a, leb-true w 65535 b)
+
+-- a refused start leaves the store
+abbrev started : List ℕ → List ℕ → Bool → Run.Started
+started image store t =
+    pick t (record { number = startRefusal image (length store); machine = zeroMachine; store = store })
+    (record { number = 0; machine = startMachine image (parse image .program) (length store); store = startStore (parse image .program) (length store) })
+
+pub start-leaves : (image store : List ℕ) → 1 ≤ startOf image store .number → startOf image store .store ≡ store
+unfolding startOf
+start-leaves image store = go (leb 1 (startRefusal image (length store)))
+  where
+    go : (t : Bool) → 1 ≤ started image store t .number → started image store t .store ≡ store
+    go true l = refl
+    go false l = absurd (let f : ⊥ = omega (arith, l) in f)

@@ -16,7 +16,7 @@ use Rattle.engine.specs.declared.run.Ran.{Ran}
 use Rattle.engine.specs.declared.session.TwoRuns.{TwoRuns}
 use Rattle.engine.specs.Ran.{answered, refusedAs}
 use Rattle.engine.specs.Closed.{startedOf, Ran2, NoRun, Closes}
-use Rattle.engine.proofs.Whole.{start-leaves}
+use Rattle.engine.proofs.Begin.{start-leaves}
 
 module _ (image before store outputs : List ℕ) (p q : Request) (number : ℕ) (after : List ℕ) (L : Loads image before number after) (r : TwoRuns) where
   pub load-ends : 1 ≤ number → r .number ≡ number → r .first ≡ refusedAs number → r .second ≡ refusedAs number → Closes image before store outputs p q r after store outputs

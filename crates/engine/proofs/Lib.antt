@@ -7,4 +7,3 @@ pub mod Numbers
 pub mod Closed
 pub mod Composed
 pub mod Turns
-pub mod Whole

@@ -4,5 +4,4 @@ pub mod Numbers
 pub mod Stops
 pub mod Judged
 pub mod Ran
-pub mod Whole
 pub mod Closed

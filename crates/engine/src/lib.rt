@@ -1,9 +1,8 @@
 // The engine: load, start and run.
-mod judge;
+pub mod judge;
 pub mod load;
-pub mod reading;
 pub mod run;
 pub mod session;
 pub mod start;
-mod stops;
+pub mod stops;
 mod table;

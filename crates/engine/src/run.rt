@@ -1,5 +1,6 @@
 // Run: the refusals, then one step after another until a stop is found.
 use crate::judge::judge;
+use crate::start::zero_machine;
 use crate::stops::stop_of;
 use execute::steps::core_of;
 use execute::steps::machine_of;
@@ -14,13 +15,25 @@ ghost use Rattle.mcode.specs.Machine.{state};
 ghost use Rattle.mcode.specs.Step.{stepOf};
 ghost use Rattle.mcode.specs.Run.{lentTo, runN, runOf};
 ghost use Rattle.engine.specs.Judged.{Passed};
-ghost use Rattle.engine.specs.Ran.{stoppedAt, answered};
+ghost use Rattle.engine.specs.Ran.{stoppedAt, answered, refusedAs};
 
 // How a run ended, its count of steps, and the machine.
 pub struct Ran {
     pub ending: Ending,
     pub count: u32,
     pub machine: Machine,
+}
+
+// A refusal, with a machine of zeros.
+pub fn refused_with(number: u16) -> Ran
+    ensures { λ r. ⌜ r ≡ refusedAs number ⌝ }
+{
+    let machine = zero_machine();
+    Ran {
+        ending: Ending::Refused(number),
+        count: 0,
+        machine,
+    }
 }
 
 // Where the stepping loop stopped: the stop, the count of steps, and the machine.

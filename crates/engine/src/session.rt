@@ -1,7 +1,7 @@
 // Load, start and two runs, with what demand 3 says of them: the chain from the code to the theorem over the whole list of runs.
 use crate::load::load;
-use crate::reading::refused_with;
 use crate::run::Ran;
+use crate::run::refused_with;
 use crate::run::run;
 use crate::start::start;
 ghost use mathlib.Core.Path.{_≡_};

@@ -1,25 +1,11 @@
 // A whole reading: load, then start, then one run.
-use crate::load::load;
-use crate::run::Ran;
 use crate::run::run;
-use crate::start::start;
-use crate::start::zero_machine;
-use mcode::Ending;
-ghost use mathlib.Core.Path.{_≡_};
-ghost use Rattle.engine.specs.Ran.{answered, refusedAs};
-ghost use Rattle.engine.specs.Whole.{Reads};
-
-// A refusal, with a machine of zeros.
-pub fn refused_with(number: u16) -> Ran
-    ensures { λ r. ⌜ r ≡ refusedAs number ⌝ }
-{
-    let machine = zero_machine();
-    Ran {
-        ending: Ending::Refused(number),
-        count: 0,
-        machine,
-    }
-}
+use engine::load::load;
+use engine::run::Ran;
+use engine::run::refused_with;
+use engine::start::start;
+ghost use Rattle.engine.specs.Ran.{answered};
+ghost use Rattle.in_place.specs.Whole.{Reads};
 
 // The first refusal, of load, start or run, ends it.
 pub fn reading(

@@ -1,16 +1,16 @@
 use mathlib.Core.Path.{_≡_, refl, sym, ap, _∙_}
-use Rattle.engine.proofs.Whole.{load-refuses, start-refuses, run-reads}
+use Rattle.in_place.proofs.Whole.{load-refuses, start-refuses, run-reads}
 use native.Mathlib.Omega.{arith}
 use borrow.Author.Tests.{ne-eqb, lt-ltb, le-ltb, le-leb, lt-leb, eq-eqb}
 use borrow.Author.Needs.{needs}
-use Rattle.engine.proofs.reading.reading.Statement.{statement}
-use Rattle.engine.proofs.reading.reading.Tie as tie
-use Rattle.engine.proofs.reading.reading.Reads as reads
-use Rattle.engine.proofs.reading.reading.Lts as lts
+use Rattle.in_place.proofs.reading.reading.Statement.{statement}
+use Rattle.in_place.proofs.reading.reading.Tie as tie
+use Rattle.in_place.proofs.reading.reading.Reads as reads
+use Rattle.in_place.proofs.reading.reading.Lts as lts
 use Rattle.engine.proofs.load.load.Reads as load-reads
-use Rattle.engine.proofs.reading.refused_with.Reads as refused-with-reads
-use Rattle.engine.proofs.run.run.Reads as run-reads
+use Rattle.engine.proofs.run.refused_with.Reads as refused-with-reads
+use Rattle.in_place.proofs.run.run.Reads as run-reads
 use Rattle.engine.proofs.start.start.Reads as start-reads
 
 load-requires : tie.Need-load-requires
 load-requires c κs = search needs

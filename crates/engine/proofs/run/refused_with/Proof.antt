@@ -1,10 +1,10 @@
 use native.Mathlib.Omega.{arith}
 use borrow.Author.Tests.{ne-eqb, lt-ltb, le-ltb, le-leb, lt-leb, eq-eqb}
 use borrow.Author.Needs.{needs}
-use Rattle.engine.proofs.reading.refused_with.Statement.{statement}
-use Rattle.engine.proofs.reading.refused_with.Tie as tie
-use Rattle.engine.proofs.reading.refused_with.Reads as reads
-use Rattle.engine.proofs.reading.refused_with.Lts as lts
+use Rattle.engine.proofs.run.refused_with.Statement.{statement}
+use Rattle.engine.proofs.run.refused_with.Tie as tie
+use Rattle.engine.proofs.run.refused_with.Reads as reads
+use Rattle.engine.proofs.run.refused_with.Lts as lts
 use Rattle.engine.proofs.start.zero_machine.Reads as zero-machine-reads
 
 zero-machine-requires : tie.Need-zero-machine-requires

@@ -1,0 +1,4 @@
+pub mod Again
+pub mod Facts
+pub mod Onward
+pub mod Whole

@@ -1,0 +1,64 @@
+-- The turns of the loop that steps a machine in place: what stands before each, from the first to the stop. Assumes nothing.
+use mathlib.Core.Path.{_≡_, refl, sym, ap, _∙_, subst}
+use mathlib.Core.Bool.{true}
+use mathlib.Core.List.{List}
+use Prim.Native.Nat.{ℕ, _+_, _-_, _≤_, _<_}
+use native.Mathlib.Omega.{arith}
+use lib.ListN.{length}
+use borrow.Author.Tests.{ne-eqb}
+use Rattle.mcode.specs.Image.{parse}
+use Rattle.mcode.specs.Depths.{mapFits}
+use Rattle.mcode.specs.Machine.{State, isMachine, go}
+use Rattle.mcode.specs.Step.{Lent, stepOf}
+use Rattle.mcode.specs.Run.{RunEnd, after, runN, lentTo}
+use Rattle.mcode.specs.Demands.{Preserves}
+use Rattle.mcode.proofs.Compose as compose
+use Rattle.mcode.proofs.Points.{preserves}
+use Rattle.actions.specs.Core.{Left, leftBy}
+use Rattle.execute.specs.Stepping.{turned}
+use Rattle.execute.proofs.Went.{went-on}
+use Rattle.engine.specs.Stops.{stopOf}
+use Rattle.engine.proofs.Turns.{turn-stop}
+
+-- before a turn: count steps of the budget n are done, the state has a machine, and the rest is still to run
+pub record Onward (image map inputs : List ℕ) (w n : ℕ) (first : State) (count : ℕ) (x : State) : Type 0 where
+  pub most : count ≤ n
+  pub sized : length (x .store) ≡ w
+  pub sixteen : length (x .outputs) ≡ 16
+  pub good : isMachine (parse image .program) map (length (x .store)) (x .machine) ≡ true
+  pub rest : runN (stepOf (lentTo image map inputs)) n first ≡ after count (runN (stepOf (lentTo image map inputs)) (n - count) x)
+
+module _ (image map inputs : List ℕ) (n : ℕ) where
+  abbrev lent : Lent
+  lent = lentTo image map inputs
+
+  pub begins : (x : State) → length (x .outputs) ≡ 16 → isMachine (parse image .program) map (length (x .store)) (x .machine) ≡ true → Onward image map inputs (length (x .store)) n x 0 x
+  begins x o g = record { most = omega arith; sized = refl; sixteen = o; good = g; rest = compose.begin (stepOf lent) n x }
+
+  module _ (w : ℕ) (first : State) (count : ℕ) (x : State) (G : Onward image map inputs w n first count x) (l : Left) where
+    pub goes-on : mapFits image (parse image .program) map ≡ true → count < n → l ≡ leftBy x (stepOf lent x) → l .stop ≡ 0 → Onward image map inputs w n first (count + 1) (l .state)
+    unfolding Preserves
+    goes-on fits less e z =
+        let went : stepOf lent x ≡ go (l .state) = went-on x (stepOf lent x) l e z in
+        let kept = preserves lent fits x (l .state) (G .good) (G .sixteen) went in
+        record {
+          most = omega (arith, less);
+          sized = kept .1 ∙ G .sized;
+          sixteen = kept .2;
+          good = kept .0;
+          rest = G .rest ∙ compose.turn (stepOf lent) n count x (l .state) less went;
+        }
+
+    stops : l ≡ turned lent (n - count) x → (l .stop ≡ 0 → ⊥) → _≡_ {A = RunEnd} (record { stop = stopOf (l .stop) (l .code); count = count; state = l .state }) (runN (stepOf lent) n first)
+    stops e s =
+        let p : n - (n - count) ≡ count = omega (arith, G .most) in
+        let t = turn-stop lent x l n (n - count) (omega arith) e s in
+        (rw p at t) ∙ sym (G .rest)
+
+    pub stops-so : count < n → l ≡ leftBy x (stepOf lent x) → (l .stop ≡ 0 → ⊥) → _≡_ {A = RunEnd} (record { stop = stopOf (l .stop) (l .code); count = count; state = l .state }) (runN (stepOf lent) n first)
+    stops-so less e = stops (rw (ne-eqb (n - count) 0 (λ q. omega (arith, q, less))) e)
+
+    pub spent-so : n ≤ count → l ≡ record { stop = 30; code = 0; state = x } → _≡_ {A = RunEnd} (record { stop = stopOf (l .stop) (l .code); count = count; state = l .state }) (runN (stepOf lent) n first)
+    spent-so all e =
+        let q : n - count ≡ 0 = omega (arith, all) in
+        stops (rw q e) (λ z. omega (arith, ap (λ (a : Left). a .stop) e, z))

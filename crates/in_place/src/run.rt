@@ -1,0 +1,96 @@
+// Run with one machine in place: the refusals, then a loop that lends the machine to one step after another until a stop is found.
+use crate::step::Halt;
+use crate::step::step_in_place;
+use engine::judge::judge;
+use engine::run::Ran;
+use engine::stops::stop_of;
+use mcode::Ending;
+use mcode::Machine;
+ghost use mathlib.Core.Path.{_≡_};
+ghost use lib.ListN.{length};
+ghost use Rattle.mcode.specs.Machine.{state};
+ghost use Rattle.mcode.specs.Step.{stepOf};
+ghost use Rattle.mcode.specs.Run.{lentTo, runN, runOf};
+ghost use Rattle.engine.specs.Judged.{Passed};
+ghost use Rattle.engine.specs.Ran.{answered};
+ghost use Rattle.in_place.specs.Placed.{haltedAt};
+
+// Where the stepping loop stopped: the stop with its code, the count of steps, and the machine.
+struct Halted {
+    stop: Halt,
+    count: u32,
+    machine: Machine,
+}
+
+// One machine in this function's own memory, which each step alters there until a stop is found.
+fn steps_in_place(
+    machine: Machine,
+    image: &[u8],
+    table: &[u16; 193],
+    map: &[u8],
+    store: &mut [u16],
+    inputs: &[u16],
+    outputs: &mut [u16],
+    n: u32,
+) -> Halted
+    requires { ⌜ Passed (now image) (now map) machine (length (now store)) (length (now outputs)) (length (now inputs)) (now table) ⌝ }
+    ensures { λ q. ⌜ haltedAt q (now (store .exit)) (now (outputs .exit)) ≡ runN (stepOf (lentTo (now (image .entry)) (now (map .entry)) (now (inputs .entry)))) n (state machine (now (store .entry)) (now (outputs .entry))) ⌝ }
+{
+    let mut m = machine;
+    let mut count = 0u32;
+    let stop = 'desk: loop {
+        if n <= count {
+            break 'desk Halt { stop: 30, code: 0 };
+        }
+        let h = step_in_place(&mut m, image, table, map, store, inputs, outputs);
+        if h.stop != 0 {
+            break 'desk h;
+        }
+        count += 1;
+    };
+    Halted {
+        stop,
+        count,
+        machine: m,
+    }
+}
+
+// Up to n steps. Refusals 1 to 6, 7, 12, 9, 10 and 11, in this order, leave everything as it was.
+pub fn run(
+    machine: Machine,
+    image: &[u8],
+    map: &[u8],
+    store: &mut [u16],
+    outputs: &mut [u16],
+    inputs: &[u16],
+    n: u32,
+) -> Ran
+    ensures { λ r. ⌜ answered r (now (store .exit)) (now (outputs .exit)) ≡ runOf (now (image .entry)) (now (map .entry)) (now (inputs .entry)) n (state machine (now (store .entry)) (now (outputs .entry))) ⌝ }
+{
+    let judged = judge(
+        machine,
+        image,
+        map,
+        store.len(),
+        outputs.len(),
+        inputs.len(),
+    );
+    let refusal = judged.refusal;
+    if 1 <= refusal {
+        return Ran {
+            ending: Ending::Refused(refusal),
+            count: 0,
+            machine,
+        };
+    }
+    let table = judged.table;
+    let h = steps_in_place(machine, image, &table, map, store, inputs, outputs, n);
+    let halt = h.stop;
+    let last = h.machine;
+    let stop = stop_of(halt.stop, halt.code);
+    Ran {
+        ending: Ending::Stopped(stop),
+        count: h.count,
+        machine: last,
+    }
+}

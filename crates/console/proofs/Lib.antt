@@ -1,1 +1,4 @@
 pub mod Texts
+pub mod Searches
+pub mod Asking
+pub mod Cases

@@ -1,17 +1,16 @@
 -- Laws of the texts of Decimals and Choices: one character more, one that ends the reading, and the end. Assumes nothing.
-use mathlib.Core.Path.{_≡_, refl, sym, ap, _∙_}
+use mathlib.Core.Path.{_≡_, refl, sym}
 use mathlib.Core.Bool.{Bool, true, false, false≢true}
 use mathlib.Core.List.{List, [], _∷_}
 use Prim.Native.Nat.{ℕ, _+_, _-_, _*_, _≤_, _<_}
 use native.Mathlib.Numerals.{add-one}
 use native.Mathlib.Omega.{arith}
-use lib.Dec.{eqb, leb}
+use lib.Dec.{eqb}
 use lib.ListN.{length, getD, take, drop, length-drop, drop-of-length-le}
 use lib.Seq.{drop-cons, take-all}
 use borrow.Author.Tests.{eq-eqb, ne-eqb, eqb-true, le-leb, lt-leb}
-use Rattle.mcode.specs.Word.{pick, and}
+use Rattle.mcode.specs.Word.{and}
 use Rattle.mcode.proofs.Tests.{and-both}
-use Rattle.console.specs.declared.number.Number.{Number}
 use Rattle.console.specs.declared.number.Number.the-variants.{Is, Bad}
 use Rattle.console.specs.Decimals.{isDigit, allDigits, valueFrom, largest, numberFrom, numberOf}
 use Rattle.console.specs.Choices.{sameText, placeOf}

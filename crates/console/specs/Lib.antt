@@ -1,3 +1,5 @@
 pub mod Decimals
 pub mod Choices
 pub mod Counted
+pub mod Faults
+pub mod Asks

@@ -1,4 +1,5 @@
 // Files to read from.
+use crate::print;
 use libc::STDIN_FILENO;
 ghost use lib.ListN.{length};
 ghost use Rattle.console.specs.Counted.{Within};
@@ -47,4 +48,23 @@ pub fn fill(fd: i32, buffer: &mut [u8]) -> Filled
         }
     }
     Filled::Bytes(done)
+}
+
+// Reads the file into the buffer. Where it cannot be read, a line on standard error says why.
+pub fn contents(program: &[u8], name: &[u8], buffer: &mut [u8]) -> Filled
+    ensures { λ r. ⌜ Within r (length (now (buffer .entry))) ⌝ }
+{
+    let fd = opened(name);
+    if fd < 0 {
+        print::unreadable(program, name);
+        return Filled::Failed;
+    }
+    let got = fill(fd, buffer);
+    if let Filled::Failed = got {
+        print::unreadable(program, name);
+    }
+    if fd != STDIN_FILENO {
+        libc::close(fd);
+    }
+    got
 }

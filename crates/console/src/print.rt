@@ -11,6 +11,13 @@ pub fn number(fd: i32, label: &[u8], n: u64) {
     io::print_decimal(fd, n);
 }
 
+// The end of a line of standard output. Where it cannot be written, a line on standard error says why.
+pub fn line_end() {
+    if !io::write_all(STDOUT_FILENO, b"\n") {
+        os::fail(b"standard output");
+    }
+}
+
 // `stop .. code .. steps ..`, with no line end.
 pub fn stopped(stop: Stop, count: u32) {
     number(STDOUT_FILENO, b"stop ", mcode::stop_number(stop) as u64);
@@ -34,21 +41,21 @@ pub fn outputs(words: [u16; 16]) {
         number(STDOUT_FILENO, b" ", words[i] as u64);
         i += 1;
     }
-    io::write_all(STDOUT_FILENO, b"\n");
+    line_end();
 }
 
 // The two lines of a reading.
 pub fn reading(stop: Stop, count: u32, machine: Machine, words: [u16; 16]) {
     stopped(stop, count);
     standing(machine);
-    io::write_all(STDOUT_FILENO, b"\n");
+    line_end();
     outputs(words);
 }
 
 // The one line of a refusal.
 pub fn refused(refusal: u16) {
     number(STDOUT_FILENO, b"refused ", refusal as u64);
-    io::write_all(STDOUT_FILENO, b"\n");
+    line_end();
 }
 
 // Where a refusal lies: unknown, at a byte of the image, or in a module at a byte of the image.
@@ -58,22 +65,30 @@ pub enum Place {
     Inside(usize, usize),
 }
 
-fn put_place(place: Place) {
+fn put_place(fd: i32, place: Place) {
     match place {
         Place::Unknown => {}
         Place::Byte(byte) => {
-            number(STDERR_FILENO, b" (byte ", byte as u64);
-            io::write_all(STDERR_FILENO, b")");
+            number(fd, b" (byte ", byte as u64);
+            io::write_all(fd, b")");
         }
         Place::Inside(unit, byte) => {
-            number(STDERR_FILENO, b" (module ", unit as u64);
-            number(STDERR_FILENO, b", byte ", byte as u64);
-            io::write_all(STDERR_FILENO, b")");
+            number(fd, b" (module ", unit as u64);
+            number(fd, b", byte ", byte as u64);
+            io::write_all(fd, b")");
         }
     }
 }
 
-// On standard error, `PROGRAM: SUBJECT: `, with which every line there begins.
+// `refused N: WORDS (module M, byte B)`, with no line end.
+pub fn refused_as(fd: i32, refusal: u16, place: Place) {
+    number(fd, b"refused ", refusal as u64);
+    io::write_all(fd, b": ");
+    words::refusal(fd, refusal);
+    put_place(fd, place);
+}
+
+// On standard error, `PROGRAM: SUBJECT: `, with which a line there begins.
 fn head(program: &[u8], subject: &[u8]) {
     io::write_all(STDERR_FILENO, program);
     io::write_all(STDERR_FILENO, b": ");
@@ -81,24 +96,21 @@ fn head(program: &[u8], subject: &[u8]) {
     io::write_all(STDERR_FILENO, b": ");
 }
 
-// `PROGRAM: FILE: refused N: WORDS (module M, byte B)`.
+// On standard error, `PROGRAM: FILE: refused N: WORDS (module M, byte B)`.
 pub fn refusal(program: &[u8], file: &[u8], refusal: u16, place: Place) {
     head(program, file);
-    number(STDERR_FILENO, b"refused ", refusal as u64);
-    io::write_all(STDERR_FILENO, b": ");
-    words::refusal(STDERR_FILENO, refusal);
-    put_place(place);
+    refused_as(STDERR_FILENO, refusal, place);
     io::write_all(STDERR_FILENO, b"\n");
 }
 
-// `PROGRAM: ARGUMENT: what is allowed`.
+// On standard error, `PROGRAM: ARGUMENT: what is allowed`.
 pub fn complaint(program: &[u8], argument: &[u8], allowed: &[u8]) {
     head(program, argument);
     io::write_all(STDERR_FILENO, allowed);
     io::write_all(STDERR_FILENO, b"\n");
 }
 
-// `PROGRAM: FILE: the system's reason`, just after a call that failed.
+// On standard error, `PROGRAM: FILE: the system's reason`, just after a call that failed.
 pub fn unreadable(program: &[u8], file: &[u8]) {
     io::write_all(STDERR_FILENO, program);
     io::write_all(STDERR_FILENO, b": ");

@@ -1,16 +1,12 @@
 -- What was read lies in the buffer, whose length stays.
-use mathlib.Core.Path.{_≡_, refl, sym, _∙_}
-use Prim.Native.Nat.{_+_, _-_, _≤_, _<_}
+use mathlib.Core.Path.{_≡_}
+use Prim.Native.Nat.{_-_, _≤_}
 use lib.ListN.{length}
 use Rattle.console.proofs.Texts.{part-within}
 use native.Mathlib.Omega.{arith}
-use borrow.Author.Tests.{ne-eqb, lt-ltb, le-ltb, le-leb, lt-leb, eq-eqb}
 use borrow.Author.Needs.{needs}
 use Rattle.console.proofs.files.fill.Statement.{statement}
 use Rattle.console.proofs.files.fill.Tie as tie
-use Rattle.console.proofs.files.fill.Reads as reads
-use Rattle.console.proofs.files.fill.Lts as lts
-use Rattle.console.proofs.files.some.Reads as some-reads
 
 abbrev Inv-loop : tie.InvT-loop
 Inv-loop fd buffer₀ done₀ buffer done = (done ≤ length buffer) × (length buffer ≡ length buffer₀)

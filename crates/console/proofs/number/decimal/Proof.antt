@@ -1,16 +1,14 @@
 -- What is left gives the same answer: the digits from i on, after those of the value.
-use mathlib.Core.Path.{_≡_, refl, sym, _∙_}
-use Prim.Native.Nat.{_+_, _-_, _*_, _≤_, _<_}
-use lib.ListN.{length, getD, drop}
+use mathlib.Core.Path.{_≡_, sym, _∙_}
+use Prim.Native.Nat.{_-_, _≤_}
+use lib.ListN.{length, drop}
 use Rattle.console.specs.Decimals.{numberOf, numberFrom, largest}
 use Rattle.console.proofs.Texts.{first-digits, more-digits, bad-digit, too-large, last-digit}
 use native.Mathlib.Omega.{arith}
-use borrow.Author.Tests.{ne-eqb, lt-ltb, le-ltb, le-leb, lt-leb, eq-eqb}
+use borrow.Author.Tests.{le-leb, lt-leb, eq-eqb}
 use borrow.Author.Needs.{needs}
 use Rattle.console.proofs.number.decimal.Statement.{statement}
 use Rattle.console.proofs.number.decimal.Tie as tie
-use Rattle.console.proofs.number.decimal.Reads as reads
-use Rattle.console.proofs.number.decimal.Lts as lts
 
 abbrev Inv-loop : tie.InvT-loop
 Inv-loop text value₀ i₀ value i = (numberOf text ≡ numberFrom value (drop i text)) × (value ≤ largest) × (i ≤ length text)

@@ -1,16 +1,13 @@
 -- The place is as many characters on as were passed.
-use mathlib.Core.Path.{_≡_, refl, sym, _∙_}
-use Prim.Native.Nat.{_+_, _-_, _≤_, _<_}
-use lib.ListN.{length, getD, drop}
+use mathlib.Core.Path.{_≡_, sym, _∙_}
+use Prim.Native.Nat.{_+_, _-_, _≤_}
+use lib.ListN.{length, drop}
 use Rattle.console.specs.Choices.{placeOf}
 use Rattle.console.proofs.Texts.{found-place, more-places, no-place}
 use native.Mathlib.Omega.{arith}
-use borrow.Author.Tests.{ne-eqb, lt-ltb, le-ltb, le-leb, lt-leb, eq-eqb}
 use borrow.Author.Needs.{needs}
 use Rattle.console.proofs.options.equals.Statement.{statement}
 use Rattle.console.proofs.options.equals.Tie as tie
-use Rattle.console.proofs.options.equals.Reads as reads
-use Rattle.console.proofs.options.equals.Lts as lts
 
 abbrev Inv-loop : tie.InvT-loop
 Inv-loop text i₀ i = (placeOf 61 text ≡ i + placeOf 61 (drop i text)) × (i ≤ length text)

@@ -1,17 +1,12 @@
-use mathlib.Core.Path.{_≡_, refl, sym, _∙_}
+use mathlib.Core.Path.{sym, _∙_}
 use Prim.Native.Nat.{_+_}
 use lib.Seq.{length-take-le}
 use Rattle.console.specs.Choices.{inputOf}
 use Rattle.console.proofs.Texts.{rest-of}
-use native.Mathlib.Omega.{arith}
-use borrow.Author.Tests.{ne-eqb, lt-ltb, le-ltb, le-leb, lt-leb, eq-eqb}
+use borrow.Author.Tests.{ne-eqb, eq-eqb}
 use borrow.Author.Needs.{needs}
 use Rattle.console.proofs.options.input.Statement.{statement}
 use Rattle.console.proofs.options.input.Tie as tie
-use Rattle.console.proofs.options.input.Reads as reads
-use Rattle.console.proofs.options.input.Lts as lts
-use Rattle.console.proofs.options.equals.Reads as equals-reads
-use Rattle.console.proofs.options.pair.Reads as pair-reads
 
 equals-requires : tie.Need-equals-requires
 equals-requires c κs = search needs

@@ -1,13 +1,9 @@
-use mathlib.Core.Path.{_≡_, refl, sym, _∙_}
+use mathlib.Core.Path.{sym, _∙_}
 use Rattle.console.specs.Choices.{kindOf}
-use native.Mathlib.Omega.{arith}
-use borrow.Author.Tests.{ne-eqb, lt-ltb, le-ltb, le-leb, lt-leb, eq-eqb}
+use borrow.Author.Tests.{ne-eqb, lt-ltb, le-ltb, eq-eqb}
 use borrow.Author.Needs.{needs}
 use Rattle.console.proofs.options.kind.Statement.{statement}
 use Rattle.console.proofs.options.kind.Tie as tie
-use Rattle.console.proofs.options.kind.Reads as reads
-use Rattle.console.proofs.options.kind.Lts as lts
-use Rattle.console.proofs.options.same.Reads as same-reads
 
 slice-aggregate-same : tie.Need-slice-aggregate-same
 slice-aggregate-same c = search needs

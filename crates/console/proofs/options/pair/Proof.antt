@@ -1,13 +1,9 @@
-use mathlib.Core.Path.{_≡_, refl, sym, _∙_}
+use mathlib.Core.Path.{sym, _∙_}
 use Rattle.console.specs.Choices.{inputFrom}
-use native.Mathlib.Omega.{arith}
-use borrow.Author.Tests.{ne-eqb, lt-ltb, le-ltb, le-leb, lt-leb, eq-eqb}
+use borrow.Author.Tests.{le-leb, lt-leb}
 use borrow.Author.Needs.{needs}
 use Rattle.console.proofs.options.pair.Statement.{statement}
 use Rattle.console.proofs.options.pair.Tie as tie
-use Rattle.console.proofs.options.pair.Reads as reads
-use Rattle.console.proofs.options.pair.Lts as lts
-use Rattle.console.proofs.number.decimal.Reads as decimal-reads
 
 decimal-requires : tie.Need-decimal-requires
 decimal-requires c κs = search needs

@@ -1,13 +1,9 @@
-use mathlib.Core.Path.{_≡_, refl, sym, _∙_}
+use mathlib.Core.Path.{sym, _∙_}
 use Rattle.console.specs.Choices.{storeOf}
-use native.Mathlib.Omega.{arith}
-use borrow.Author.Tests.{ne-eqb, lt-ltb, le-ltb, le-leb, lt-leb, eq-eqb}
+use borrow.Author.Tests.{le-leb, lt-leb}
 use borrow.Author.Needs.{needs}
 use Rattle.console.proofs.options.store.Statement.{statement}
 use Rattle.console.proofs.options.store.Tie as tie
-use Rattle.console.proofs.options.store.Reads as reads
-use Rattle.console.proofs.options.store.Lts as lts
-use Rattle.console.proofs.number.decimal.Reads as decimal-reads
 
 decimal-requires : tie.Need-decimal-requires
 decimal-requires c κs = search needs

@@ -1,12 +1,7 @@
-use mathlib.Core.Path.{_≡_, refl, sym, _∙_}
-use native.Mathlib.Omega.{arith}
-use borrow.Author.Tests.{ne-eqb, lt-ltb, le-ltb, le-leb, lt-leb, eq-eqb}
+use Rattle.console.proofs.Asking.{input-set}
 use borrow.Author.Needs.{needs}
 use Rattle.console.proofs.options.with_choice.Statement.{statement}
 use Rattle.console.proofs.options.with_choice.Tie as tie
-use Rattle.console.proofs.options.with_choice.Reads as reads
-use Rattle.console.proofs.options.with_choice.Lts as lts
-use Rattle.console.proofs.options.with_input.Reads as with-input-reads
 
 enum-known-choice : tie.Need-enum-known-choice
 enum-known-choice c = search needs
@@ -30,7 +25,7 @@ returns-2 : tie.Need-returns-2
 returns-2 c = rw (c .before .choice2 .given .1)
 
 returns-3 : tie.Need-returns-3
-returns-3 c = rw (c .before .before .choice3 .given .1, ← c .with-input .ensures)
+returns-3 c = input-set (c .before .before .before .before .before .args .options) _ _ _ _ (c .before .before .choice3 .given .1) (c .with-input .ensures)
 
 returns-4 : tie.Need-returns-4
 returns-4 c = search needs

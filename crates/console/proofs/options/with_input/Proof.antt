@@ -1,12 +1,9 @@
-use mathlib.Core.Path.{_≡_, refl, sym, _∙_}
+use mathlib.Core.Path.{sym}
 use lib.Seq.{set-out}
 use native.Mathlib.Omega.{arith}
-use borrow.Author.Tests.{ne-eqb, lt-ltb, le-ltb, le-leb, lt-leb, eq-eqb}
 use borrow.Author.Needs.{needs}
 use Rattle.console.proofs.options.with_input.Statement.{statement}
 use Rattle.console.proofs.options.with_input.Tie as tie
-use Rattle.console.proofs.options.with_input.Reads as reads
-use Rattle.console.proofs.options.with_input.Lts as lts
 
 mul-inputs : tie.Need-mul-inputs
 mul-inputs c = search needs

@@ -3,16 +3,12 @@ use Prim.Native.Nat.{_-_}
 use borrow.Author.Needs.{needs}
 use Rattle.console.proofs.print.outputs.Statement.{statement}
 use Rattle.console.proofs.print.outputs.Tie as tie
-use Rattle.console.proofs.print.outputs.Reads as reads
-use Rattle.console.proofs.print.outputs.Lts as lts
-use Rattle.console.proofs.print.number.Reads as number-reads
-use Rattle.io.proofs.write_all.Reads as write-all-reads
 
 abbrev Inv-loop : tie.InvT-loop
-Inv-loop words i₀ t5 t6 i = Unit {0}
+Inv-loop words i₀ t5 i = Unit {0}
 
 abbrev μ-loop : tie.MeasureT-loop
-μ-loop words i₀ t5 t6 i = 16 - i
+μ-loop words i₀ t5 i = 16 - i
 
 slice-aggregate-number : tie.Need-slice-aggregate-number Inv-loop μ-loop
 slice-aggregate-number c = search needs
@@ -53,11 +49,8 @@ loop-less c = search needs
 loop-again : tie.Need-loop-again Inv-loop μ-loop
 loop-again c = search needs
 
-slice-aggregate-write-all : tie.Need-slice-aggregate-write-all Inv-loop μ-loop
-slice-aggregate-write-all c = search needs
-
-write-all-requires : tie.Need-write-all-requires Inv-loop μ-loop
-write-all-requires c κs = search needs
+line-end-requires : tie.Need-line-end-requires Inv-loop μ-loop
+line-end-requires c κs = search needs
 
 returns : tie.Need-returns Inv-loop μ-loop
 returns c = search needs
@@ -81,6 +74,5 @@ outputs-spec =
     add-i
     loop-less
     loop-again
-    slice-aggregate-write-all
-    write-all-requires
+    line-end-requires
     returns)

@@ -1,0 +1,206 @@
+// What the arguments of a program ask together. They are judged one after another, before any file is read; the first bad one ends
+// it, with a line on standard error that names it and says what is allowed.
+use crate::options;
+use crate::options::Argument;
+use crate::options::Choice;
+use crate::options::Options;
+use crate::print;
+use libc::STDERR_FILENO;
+ghost use mathlib.Core.Path.{_≡_};
+ghost use Rattle.console.specs.Asks.{nothingAsked, goesOn, endsWith, oneMore, isBad, withValue, wordSays, textSays, wholeOf};
+
+// The option whose value comes next.
+pub enum Awaited {
+    Nothing,
+    Steps,
+    Store,
+    Input,
+}
+
+// The options so far, and how many files are named: 0, 1, or 2 for several. Whether help is asked, and whether an argument was bad:
+// each of these ends it.
+pub struct Asked {
+    pub options: Options,
+    pub files: usize,
+    pub awaited: Awaited,
+    pub help: bool,
+    pub bad: bool,
+}
+
+fn going_on(options: Options, files: usize, awaited: Awaited) -> Asked
+    ensures { λ r. ⌜ r ≡ goesOn options files awaited ⌝ }
+{
+    Asked {
+        options,
+        files,
+        awaited,
+        help: false,
+        bad: false,
+    }
+}
+
+fn ended(asked: Asked, help: bool) -> Asked
+    ensures { λ r. ⌜ r ≡ endsWith asked help ⌝ }
+{
+    let options = asked.options;
+    let awaited = Awaited::Nothing;
+    Asked {
+        options,
+        files: asked.files,
+        awaited,
+        help,
+        bad: !help,
+    }
+}
+
+// Before the first argument.
+pub fn begun() -> Asked
+    ensures { λ r. ⌜ r ≡ nothingAsked ⌝ }
+{
+    let options = options::defaults();
+    going_on(options, 0, Awaited::Nothing)
+}
+
+fn one_more(files: usize) -> usize
+    ensures { λ r. ⌜ r ≡ oneMore files ⌝ }
+{
+    if files == 0 {
+        return 1;
+    }
+    2
+}
+
+// A file, or the name of an option.
+fn with_word(program: &[u8], asked: Asked, text: &[u8]) -> Asked
+    ensures { λ r. ⌜ r ≡ wordSays asked (now (text .entry)) ⌝ }
+{
+    let options = asked.options;
+    let files = asked.files;
+    match options::kind(text) {
+        Argument::Help => ended(asked, true),
+        Argument::Steps => going_on(options, files, Awaited::Steps),
+        Argument::Store => going_on(options, files, Awaited::Store),
+        Argument::Input => going_on(options, files, Awaited::Input),
+        Argument::Unknown => {
+            print::complaint(program, text, b"no such option (--help lists them)");
+            ended(asked, false)
+        }
+        Argument::File => going_on(options, one_more(files), Awaited::Nothing),
+    }
+}
+
+fn is_bad(choice: Choice) -> bool
+    ensures { λ r. ⌜ r ≡ isBad choice ⌝ }
+{
+    match choice {
+        Choice::Steps(_) => false,
+        Choice::Store(_) => false,
+        Choice::Input(_, _) => false,
+        Choice::Bad => true,
+    }
+}
+
+// The value of an option, which takes what `allowed` says.
+fn with_value(program: &[u8], asked: Asked, text: &[u8], choice: Choice, allowed: &[u8]) -> Asked
+    ensures { λ r. ⌜ r ≡ withValue asked choice ⌝ }
+{
+    if is_bad(choice) {
+        print::complaint(program, text, allowed);
+        return ended(asked, false);
+    }
+    let before = asked.options;
+    let options = options::with_choice(before, choice);
+    going_on(options, asked.files, Awaited::Nothing)
+}
+
+// One argument more.
+pub fn with_text(program: &[u8], asked: Asked, text: &[u8]) -> Asked
+    ensures { λ r. ⌜ r ≡ textSays asked (now (text .entry)) ⌝ }
+{
+    let awaited = asked.awaited;
+    match awaited {
+        Awaited::Nothing => with_word(program, asked, text),
+        Awaited::Steps => with_value(
+            program,
+            asked,
+            text,
+            options::steps(text),
+            b"--steps takes a number from 0 to 4294967295",
+        ),
+        Awaited::Store => with_value(
+            program,
+            asked,
+            text,
+            options::store(text),
+            b"--store takes a number from 0 to 65536",
+        ),
+        Awaited::Input => with_value(
+            program,
+            asked,
+            text,
+            options::input(text),
+            b"--input takes CH=VALUE, a channel from 0 to 15 and a value from 0 to 65535",
+        ),
+    }
+}
+
+// After the last argument: no option may still await its value.
+pub fn whole(program: &[u8], asked: Asked) -> Asked
+    ensures { λ r. ⌜ r ≡ wholeOf asked ⌝ }
+{
+    let awaited = asked.awaited;
+    match awaited {
+        Awaited::Nothing => asked,
+        Awaited::Steps => {
+            print::complaint(
+                program,
+                b"--steps",
+                b"a number from 0 to 4294967295 must follow",
+            );
+            ended(asked, false)
+        }
+        Awaited::Store => {
+            print::complaint(program, b"--store", b"a number from 0 to 65536 must follow");
+            ended(asked, false)
+        }
+        Awaited::Input => {
+            print::complaint(
+                program,
+                b"--input",
+                b"CH=VALUE must follow (channel 0 to 15, value 0 to 65535)",
+            );
+            ended(asked, false)
+        }
+    }
+}
+
+// Argument i. One that is too long for the buffer is bad.
+fn with_argument(program: &[u8], asked: Asked, i: usize) -> Asked {
+    let mut text = io::buffer();
+    let n = os::arg(i, &mut text);
+    if os::errno() != 0 {
+        io::write_all(STDERR_FILENO, program);
+        print::number(STDERR_FILENO, b": argument ", i as u64);
+        io::write_all(STDERR_FILENO, b": longer than 4096 bytes\n");
+        return ended(asked, false);
+    }
+    with_text(program, asked, &text[..n])
+}
+
+// All arguments of the program.
+pub fn gathered(program: &[u8]) -> Asked {
+    let count = os::arg_count();
+    let mut asked = begun();
+    let mut i: usize = 1;
+    while i < count {
+        asked = with_argument(program, asked, i);
+        if asked.help {
+            return asked;
+        }
+        if asked.bad {
+            return asked;
+        }
+        i += 1;
+    }
+    whole(program, asked)
+}

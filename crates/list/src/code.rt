@@ -1,0 +1,145 @@
+// A module's code, one line an instruction.
+use listing::bytes::byte_from;
+use listing::instruction::Instruction;
+use listing::instruction::instruction_at;
+use listing::print::blanks;
+use listing::print::hex;
+use listing::print::instruction;
+use listing::print::named;
+use listing::print::right;
+use listing::print::text;
+use listing::procedure::entered;
+use listing::search::marked_from;
+use mcode::Module;
+ghost use mathlib.Core.Path.{_≡_};
+ghost use Prim.Native.Nat.{_<_};
+ghost use lib.ListN.{length};
+
+// The columns: position, depth, bytes, instruction.
+pub fn put_columns() {
+    text(b"   pos  depth  bytes     instruction\n");
+}
+
+pub fn put_place(p: usize) {
+    right(p as u64, 6);
+}
+
+fn put_depth(depth: u8) {
+    right(depth as u64, 7);
+    blanks(2);
+}
+
+pub fn put_no_depth() {
+    text(b"      -  ");
+}
+
+// A line for each procedure that enters at p.
+pub fn put_labels(image: &[u8], m: Module, p: u16) {
+    let count = depths::rules::proc_count(m);
+    let mut i = entered(image, m, p, 0);
+    while i < count {
+        named(b"procedure ", i as u64);
+        text(b":\n");
+        i = entered(image, m, p, i + 1);
+    }
+}
+
+// The bytes of the code from a to e.
+pub fn put_bytes(image: &[u8], m: Module, a: usize, e: usize) {
+    let mut p = a;
+    while p < e {
+        hex(byte_from(image, m.code, p));
+        text(b" ");
+        p += 1;
+    }
+}
+
+// The bytes and the words of a listed instruction.
+pub fn put_instruction(image: &[u8], m: Module, p: u16, i: Instruction) {
+    let at = p as usize;
+    let size = i.size as usize;
+    put_bytes(image, m, at, at + size);
+    if size < 3 {
+        blanks(3 * (3 - size));
+    }
+    blanks(1);
+    instruction(i);
+    text(b"\n");
+}
+
+// The next position to look at, and the end of what the lines before it show.
+struct Place {
+    at: usize,
+    shown: usize,
+}
+
+fn largest(a: usize, b: usize) -> usize {
+    if a < b { b } else { a }
+}
+
+// A marked instruction.
+fn put_marked(image: &[u8], m: Module, p: u16, depth: u8) -> usize {
+    put_labels(image, m, p);
+    let i = instruction_at(image, m, p);
+    put_place(p as usize);
+    put_depth(depth);
+    put_instruction(image, m, p, i);
+    p as usize + i.size as usize
+}
+
+// The end of the unmarked bytes from `at` on, of which a line shows at most 8.
+fn unmarked_end(marks: &[u8], at: usize) -> usize
+    requires { ⌜ at < 65536 ⌝ }
+    ensures { λ r. ⌜ at < r ⌝ }
+{
+    let e = marked_from(marks, at + 1);
+    if at + 8 < e {
+        return at + 8;
+    }
+    e
+}
+
+// Bytes that no marked instruction covers, from `at` on. Answers where they end.
+fn put_unreached(image: &[u8], m: Module, marks: &[u8], at: usize) -> usize
+    requires { ⌜ at < 65536 ⌝ }
+    ensures { λ r. ⌜ at < r ⌝ }
+{
+    let e = unmarked_end(marks, at);
+    put_place(at);
+    put_no_depth();
+    put_bytes(image, m, at, e);
+    text(b" unreached\n");
+    e
+}
+
+// The line at a position: an instruction where it is marked, nothing where an instruction before it covers it, else bytes.
+fn put_line(image: &[u8], m: Module, marks: &[u8], here: Place) -> Place
+    requires { ⌜ (here .at < length (now marks)) × (here .at < 65536) ⌝ }
+    ensures { λ r. ⌜ here .at < r .at ⌝ }
+{
+    let at = here.at;
+    let shown = here.shown;
+    let depth = marks[at];
+    if depth != 0xff {
+        let e = put_marked(image, m, at as u16, depth);
+        return Place {
+            at: at + 1,
+            shown: largest(shown, e),
+        };
+    }
+    if at < shown {
+        return Place { at: at + 1, shown };
+    }
+    let e = put_unreached(image, m, marks, at);
+    Place { at: e, shown }
+}
+
+// The code by the marks of its positions: every byte stands in a line.
+pub fn put_code(image: &[u8], m: Module, marks: &[u8])
+    requires { ⌜ length (now marks) ≡ m .length ⌝ }
+{
+    let mut here = Place { at: 0, shown: 0 };
+    while here.at < marks.len() {
+        here = put_line(image, m, marks, here);
+    }
+}

@@ -1,0 +1,24 @@
+// What --help prints.
+use libc::STDOUT_FILENO;
+use listing::print::text;
+
+pub fn put_usage(fd: i32) {
+    io::write_all(fd, b"usage: list FILE..\n");
+}
+
+fn put_columns() {
+    text(b"  pos          position in the module's code\n");
+    text(b"  depth        words on the operand stack before it, as load marks it\n");
+    text(b"  bytes        opcode and operands, in hex\n");
+    text(b"  instruction  name and operands; a jump shows the position that it goes to\n\n");
+}
+
+pub fn put_help() {
+    put_usage(STDOUT_FILENO);
+    text(b"\nLists each image: its modules, their procedures, and their code, one line an\n");
+    text(b"instruction. FILE - is standard input.\n\n");
+    put_columns();
+    text(b"Bytes that no marked instruction covers are shown as unreached. An image that\n");
+    text(b"load refuses shows the refusal; one that is refused with 8, no depths fit, also\n");
+    text(b"shows its code, from the beginning and again from each entry, with - for depths.\n");
+}

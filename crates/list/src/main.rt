@@ -1,0 +1,112 @@
+// list: images with their modules, procedures and code, one line an instruction, with the depths that load marks.
+mod code;
+mod help;
+mod show;
+mod sweep;
+
+use console::files::Filled;
+use console::files::contents;
+use console::options::Argument;
+use console::options::kind;
+use console::print::Place;
+use console::print::complaint;
+use console::print::refusal;
+use console::print::unreadable;
+use libc::STDERR_FILENO;
+use libc::STDOUT_FILENO;
+
+// What an argument is.
+enum Asked {
+    Help,
+    File,
+    Bad,
+}
+
+// A bad argument is told on standard error.
+fn word(i: usize) -> Asked {
+    let mut buffer = io::buffer();
+    let n = os::arg(i, &mut buffer);
+    let text = &buffer[..n];
+    if os::errno() != 0 {
+        unreadable(b"list", b"argument");
+        return Asked::Bad;
+    }
+    match kind(text) {
+        Argument::Help => Asked::Help,
+        Argument::File => Asked::File,
+        Argument::Steps => unknown(text),
+        Argument::Store => unknown(text),
+        Argument::Input => unknown(text),
+        Argument::Unknown => unknown(text),
+    }
+}
+
+fn unknown(text: &[u8]) -> Asked {
+    complaint(b"list", text, b"no such option (--help lists them)");
+    Asked::Bad
+}
+
+// Whether there are files to list, and all arguments are good.
+fn is_asked(count: usize) -> bool {
+    let mut i = 1usize;
+    while i < count {
+        match word(i) {
+            Asked::Help => {
+                help::put_help();
+                return false;
+            }
+            Asked::File => {}
+            Asked::Bad => {
+                return false;
+            }
+        }
+        i += 1;
+    }
+    if count < 2 {
+        help::put_usage(STDERR_FILENO);
+        return false;
+    }
+    true
+}
+
+// An image of n bytes. A blank line stands between two listings.
+fn list_bytes(i: usize, name: &[u8], image: &mut [u8], n: usize, map: &mut [u8]) {
+    if 65535 < n {
+        refusal(b"list", name, 1, Place::Unknown);
+        return;
+    }
+    if 1 < i {
+        io::write_all(STDOUT_FILENO, b"\n");
+    }
+    if n <= image.len() {
+        show::put_image(name, &mut image[0..n], map);
+    }
+}
+
+// The file that an argument names.
+fn list_file(i: usize) {
+    let mut buffer = io::buffer();
+    let length = os::arg(i, &mut buffer);
+    let name = &buffer[..length];
+    let mut image = io::large_buffer();
+    let mut map = io::large_buffer();
+    match contents(b"list", name, &mut image) {
+        Filled::Failed => {}
+        Filled::Bytes(n) => list_bytes(i, name, &mut image, n, &mut map),
+    }
+}
+
+fn list_files(count: usize) {
+    let mut i = 1usize;
+    while i < count {
+        list_file(i);
+        i += 1;
+    }
+}
+
+fn main() {
+    let count = os::arg_count();
+    if is_asked(count) {
+        list_files(count);
+    }
+}

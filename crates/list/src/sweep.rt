@@ -1,0 +1,98 @@
+// A module's code with no depth map: one instruction behind another, from position 0 and again from each entry.
+use crate::code::put_bytes;
+use crate::code::put_instruction;
+use crate::code::put_labels;
+use crate::code::put_no_depth;
+use crate::code::put_place;
+use listing::instruction::Instruction;
+use listing::instruction::instruction_at;
+use listing::print::octal;
+use listing::print::text;
+use listing::procedure::entered;
+use mcode::Module;
+ghost use Prim.Native.Nat.{_<_};
+
+fn is_entry(image: &[u8], m: Module, at: usize) -> bool {
+    if 65535 < at {
+        return false;
+    }
+    entered(image, m, at as u16, 0) < depths::rules::proc_count(m)
+}
+
+// How many bytes from p on stand before an entry that lies inside of an instruction of this size.
+fn free_size(image: &[u8], m: Module, p: u16, size: u8) -> u8
+    requires { ⌜ 0 < size ⌝ }
+    ensures { λ r. ⌜ 0 < r ⌝ }
+{
+    if size < 2 {
+        return size;
+    }
+    if is_entry(image, m, p as usize + 1) {
+        return 1;
+    }
+    if size < 3 {
+        return size;
+    }
+    if is_entry(image, m, p as usize + 2) {
+        return 2;
+    }
+    size
+}
+
+// A byte that begins no instruction of this code.
+fn put_bare(image: &[u8], m: Module, p: u16, i: Instruction) {
+    let at = p as usize;
+    put_bytes(image, m, at, at + 1);
+    text(b"       ");
+    if mcode::opcode::length_of(i.op) == 0 {
+        text(b"not listed: ");
+        octal(i.op);
+        text(b"\n");
+        return;
+    }
+    text(b"operands past the code: ");
+    octal(i.op);
+    text(b"\n");
+}
+
+// The first bytes of an instruction, of which an entry leaves 1 or 2.
+fn put_cut(image: &[u8], m: Module, p: u16, free: u8, op: u8) {
+    let at = p as usize;
+    put_bytes(image, m, at, at + free as usize);
+    if free < 2 {
+        text(b"   ");
+    }
+    text(b"    a procedure enters inside: ");
+    octal(op);
+    text(b"\n");
+}
+
+// The line at position p, and the next position.
+fn put_swept(image: &[u8], m: Module, p: u16) -> usize
+    ensures { λ r. ⌜ p < r ⌝ }
+{
+    let at = p as usize;
+    put_labels(image, m, p);
+    let i = instruction_at(image, m, p);
+    put_place(at);
+    put_no_depth();
+    if i.size == 0 {
+        put_bare(image, m, p, i);
+        return at + 1;
+    }
+    let free = free_size(image, m, p, i.size);
+    if free < i.size {
+        put_cut(image, m, p, free, i.op);
+        return at + free as usize;
+    }
+    put_instruction(image, m, p, i);
+    at + i.size as usize
+}
+
+pub fn put_sweep(image: &[u8], m: Module) {
+    let length = m.length as usize;
+    let mut at = 0usize;
+    while at < length {
+        at = put_swept(image, m, at as u16);
+    }
+}

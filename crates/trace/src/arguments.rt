@@ -1,0 +1,166 @@
+// What the arguments ask together: what console's do, and --limit. They are judged before any file is read; the first bad one ends
+// it, with a line on standard error.
+use console::arguments::Asked;
+use console::arguments::Awaited;
+use console::arguments::begun;
+use console::arguments::whole;
+use console::arguments::with_text;
+use console::number::Number;
+use console::number::decimal;
+use console::options::Argument;
+use console::options::kind;
+use console::print::complaint;
+use console::print::unreadable;
+
+// How many steps are listed, and whether the value of --limit comes next.
+pub struct Wanted {
+    pub asked: Asked,
+    pub limit: u32,
+    pub limiting: bool,
+}
+
+// A bad argument ends it.
+fn ended(wanted: Wanted) -> Wanted {
+    let asked = wanted.asked;
+    let options = asked.options;
+    let awaited = Awaited::Nothing;
+    let bad = Asked {
+        options,
+        files: asked.files,
+        awaited,
+        help: false,
+        bad: true,
+    };
+    Wanted {
+        asked: bad,
+        limit: wanted.limit,
+        limiting: false,
+    }
+}
+
+// The value of --limit.
+fn with_limit(before: Wanted, text: &[u8]) -> Wanted {
+    match decimal(text) {
+        Number::Is(n) => {
+            let asked = before.asked;
+            Wanted {
+                asked,
+                limit: n,
+                limiting: false,
+            }
+        }
+        Number::Bad => {
+            complaint(
+                b"trace",
+                text,
+                b"--limit takes a number from 0 to 4294967295",
+            );
+            ended(before)
+        }
+    }
+}
+
+fn is_awaited(awaited: Awaited) -> bool {
+    match awaited {
+        Awaited::Nothing => false,
+        _ => true,
+    }
+}
+
+// Whether a text is --limit, and not the value of another option.
+fn begins_limit(asked: Asked, text: &[u8]) -> bool {
+    let awaited = asked.awaited;
+    if is_awaited(awaited) {
+        return false;
+    }
+    check::same(text, b"--limit")
+}
+
+// One argument more.
+fn with_word(before: Wanted, text: &[u8]) -> Wanted {
+    if before.limiting {
+        return with_limit(before, text);
+    }
+    let last = before.asked;
+    let limiting = begins_limit(last, text);
+    if limiting {
+        return Wanted {
+            asked: last,
+            limit: before.limit,
+            limiting,
+        };
+    }
+    let asked = with_text(b"trace", last, text);
+    Wanted {
+        asked,
+        limit: before.limit,
+        limiting,
+    }
+}
+
+// Argument i. One that is too long for the buffer is bad.
+fn with_argument(before: Wanted, i: usize) -> Wanted {
+    let mut text = io::buffer();
+    let n = os::arg(i, &mut text);
+    if os::errno() != 0 {
+        unreadable(b"trace", b"argument");
+        return ended(before);
+    }
+    with_word(before, &text[..n])
+}
+
+// After the last argument: no option may still await its value.
+fn complete(before: Wanted) -> Wanted {
+    if before.limiting {
+        complaint(
+            b"trace",
+            b"--limit",
+            b"a number from 0 to 4294967295 must follow",
+        );
+        return ended(before);
+    }
+    let last = before.asked;
+    let asked = whole(b"trace", last);
+    Wanted {
+        asked,
+        limit: before.limit,
+        limiting: false,
+    }
+}
+
+// All arguments, up to one that asks for help or is bad.
+pub fn gathered() -> Wanted {
+    let count = os::arg_count();
+    let asked = begun();
+    let mut all = Wanted {
+        asked,
+        limit: u32::MAX,
+        limiting: false,
+    };
+    let mut i = 1usize;
+    while i < count {
+        all = with_argument(all, i);
+        let so_far = all.asked;
+        if so_far.help {
+            return all;
+        }
+        if so_far.bad {
+            return all;
+        }
+        i += 1;
+    }
+    complete(all)
+}
+
+// Whether a text names an option that a value follows.
+pub fn takes_value(text: &[u8]) -> bool {
+    if check::same(text, b"--limit") {
+        return true;
+    }
+    match kind(text) {
+        Argument::Steps => true,
+        Argument::Store => true,
+        Argument::Input => true,
+        _ => false,
+    }
+}

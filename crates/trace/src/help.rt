@@ -1,0 +1,35 @@
+// What --help prints.
+use libc::STDOUT_FILENO;
+use listing::print::text;
+
+pub fn put_usage(fd: i32) {
+    io::write_all(
+        fd,
+        b"usage: trace [--steps N] [--store W] [--input CH=VALUE].. [--limit L]",
+    );
+    io::write_all(fd, b" FILE..\n");
+}
+
+fn put_options() {
+    text(b"  --steps N         at most N steps, 0 to 4294967295 (default 1000)\n");
+    text(b"  --store W         a store of W words, 0 to 65536 (default 4096)\n");
+    text(b"  --input CH=VALUE  input channel CH, 0 to 15, holds VALUE, 0 to 65535\n");
+    text(b"                    (default 0); may be given again, a later one wins\n");
+    text(b"  --limit L         list the first L steps only (default: all)\n");
+    text(b"  --help            this text\n\n");
+    text(b"Options hold for all files, wherever they stand.\n\n");
+}
+
+pub fn put_help() {
+    put_usage(STDOUT_FILENO);
+    text(b"\nRuns each image one step at a time with the proved engine, and shows what each\n");
+    text(b"step does. FILE - is standard input.\n\n");
+    put_options();
+    text(b"A step's line has its number, module and position, the instruction (a jump\n");
+    text(b"shows the position that it goes to), and the operand stack before and after it,\n");
+    text(b"the top word last. Below it stand the registers and the words of the store that\n");
+    text(b"it changed. An output that changed has a line at the margin, also beyond the\n");
+    text(b"limit: output 2: 0 -> 7 (step 3)\n\n");
+    text(b"The instruction at which the run stops is no step, and has - for its number. At\n");
+    text(b"the end stand the stop in words and the two lines of the reading.\n");
+}

@@ -1,0 +1,238 @@
+// trace: runs images one step at a time and shows what each step does.
+// trace [--steps N] [--store W] [--input CH=VALUE].. [--limit L] FILE..
+mod arguments;
+mod help;
+mod show;
+mod steps;
+
+use crate::arguments::gathered;
+use crate::arguments::takes_value;
+use crate::steps::traced;
+use console::fault;
+use console::files::Filled;
+use console::files::contents;
+use console::options::Options;
+use console::print::Place;
+use console::print::reading;
+use console::print::refusal;
+use console::print::refused_as;
+use console::words;
+use engine::run::Ran;
+use engine::start::start;
+use libc::STDERR_FILENO;
+use libc::STDOUT_FILENO;
+use listing::print::text;
+use mcode::Ending;
+use mcode::Machine;
+ghost use Prim.Native.Nat.{_≤_};
+
+// The words of the store, of which there are `most`.
+fn store_words(chosen: usize, most: usize) -> usize
+    ensures { λ r. ⌜ r ≤ most ⌝ }
+{
+    if chosen <= most {
+        return chosen;
+    }
+    most
+}
+
+// The refusal of an image of n bytes: in the place of its trace, and on standard error.
+fn put_refusal(name: &[u8], image: &mut [u8], n: usize, number: u16) {
+    if n <= image.len() {
+        let place = fault::place(&mut image[0..n], number);
+        refused_as(STDOUT_FILENO, number, place);
+        text(b"\n");
+        refusal(b"trace", name, number, place);
+    }
+}
+
+// The stop in words, and the two lines of the reading.
+fn put_end(ran: Ran, outputs: [u16; 16]) {
+    let ending = ran.ending;
+    match ending {
+        Ending::Refused(number) => {
+            refused_as(STDOUT_FILENO, number, Place::Unknown);
+            text(b"\n");
+        }
+        Ending::Stopped(stop) => {
+            text(b"stopped: ");
+            words::stop(STDOUT_FILENO, mcode::stop_number(stop));
+            text(b"\n");
+            let machine = ran.machine;
+            reading(stop, ran.count, machine, outputs);
+        }
+    }
+}
+
+// The steps from a started machine, over a store whose words `before` has too.
+fn put_steps(
+    machine: Machine,
+    image: &[u8],
+    map: &[u8],
+    store: &mut [u16],
+    before: &mut [u16],
+    inputs: [u16; 16],
+    n: u32,
+    limit: u32,
+) {
+    let parsed = image::read_image(image);
+    let program = parsed.program;
+    let mut outputs = [0u16; 16];
+    let mut last = [0u16; 16];
+    show::put_columns();
+    let ran = traced(
+        machine,
+        image,
+        map,
+        store,
+        &mut outputs,
+        &inputs,
+        n,
+        program,
+        limit,
+        before,
+        &mut last,
+    );
+    put_end(ran, outputs);
+}
+
+// The trace of an image that load accepts, or the number of start's refusal.
+fn put_run(
+    image: &[u8],
+    map: &[u8],
+    store: &mut [u16],
+    before: &mut [u16],
+    options: Options,
+    limit: u32,
+) -> u16 {
+    let started = start(image, store);
+    let number = started.number;
+    if 1 <= number {
+        return number;
+    }
+    start(image, before);
+    let machine = started.machine;
+    let inputs = options.inputs;
+    put_steps(
+        machine,
+        image,
+        map,
+        store,
+        before,
+        inputs,
+        options.steps,
+        limit,
+    );
+    0
+}
+
+// The trace of an image, or the number of its refusal.
+fn put_image(
+    image: &[u8],
+    map: &mut [u8],
+    store: &mut [u16],
+    before: &mut [u16],
+    options: Options,
+    limit: u32,
+) -> u16 {
+    let number = engine::load::load(image, map);
+    if 1 <= number {
+        return number;
+    }
+    let w = store_words(options.store, store.len());
+    let v = store_words(options.store, before.len());
+    put_run(
+        image,
+        map,
+        &mut store[..w],
+        &mut before[..v],
+        options,
+        limit,
+    )
+}
+
+fn first(all: &[u8], n: usize) -> &[u8] {
+    if n <= all.len() { &all[0..n] } else { all }
+}
+
+// An image of n bytes.
+fn put_bytes(
+    name: &[u8],
+    image: &mut [u8],
+    n: usize,
+    store: &mut [u16],
+    before: &mut [u16],
+    options: Options,
+    limit: u32,
+) {
+    if 65535 < n {
+        refusal(b"trace", name, 1, Place::Unknown);
+        return;
+    }
+    text(name);
+    text(b":\n");
+    let mut map = io::large_buffer();
+    let number = put_image(first(image, n), &mut map, store, before, options, limit);
+    if 1 <= number {
+        put_refusal(name, image, n, number);
+    }
+}
+
+fn put_file(name: &[u8], store: &mut [u16], before: &mut [u16], options: Options, limit: u32) {
+    let mut image = io::large_buffer();
+    match contents(b"trace", name, &mut image) {
+        Filled::Failed => {}
+        Filled::Bytes(n) => put_bytes(name, &mut image, n, store, before, options, limit),
+    }
+}
+
+// Argument i, where it is a file. Answers whether the next argument is the value of this one.
+fn put_argument(
+    i: usize,
+    is_value: bool,
+    store: &mut [u16],
+    before: &mut [u16],
+    options: Options,
+    limit: u32,
+) -> bool {
+    if is_value {
+        return false;
+    }
+    let mut name = io::buffer();
+    let n = os::arg(i, &mut name);
+    if takes_value(&name[..n]) {
+        return true;
+    }
+    put_file(&name[..n], store, before, options, limit);
+    false
+}
+
+fn put_files(store: &mut [u16], before: &mut [u16], options: Options, limit: u32) {
+    let count = os::arg_count();
+    let mut is_value = false;
+    let mut i = 1usize;
+    while i < count {
+        is_value = put_argument(i, is_value, store, before, options, limit);
+        i += 1;
+    }
+}
+
+fn main() {
+    let all = gathered();
+    let asked = all.asked;
+    if asked.help {
+        help::put_help();
+        return;
+    }
+    if asked.bad {
+        return;
+    }
+    if asked.files == 0 {
+        help::put_usage(STDERR_FILENO);
+        return;
+    }
+    let mut store = [0u16; 65536];
+    let mut before = [0u16; 65536];
+    let options = asked.options;
+    put_files(&mut store, &mut before, options, all.limit);
+}

@@ -1,0 +1,133 @@
+// The steps of a run, one at a time.
+use crate::show::put_step;
+use engine::run::Ran;
+use engine::run::run;
+use mcode::Ending;
+use mcode::Machine;
+use mcode::Program;
+use mcode::Stop;
+ghost use mathlib.Core.Path.{_≡_};
+ghost use Prim.Native.Nat.{_+_, _≤_};
+ghost use Rattle.mcode.specs.Machine.{state};
+ghost use Rattle.mcode.specs.Run.{runOf};
+ghost use Rattle.mcode.specs.Demands.{joined};
+ghost use Rattle.engine.specs.Ran.{answered};
+
+fn is_spent(ending: Ending) -> bool {
+    match ending {
+        Ending::Refused(_) => false,
+        Ending::Stopped(stop) => match stop {
+            Stop::Spent => true,
+            _ => false,
+        },
+    }
+}
+
+// Up to m steps more; their counts add.
+fn more(
+    ran: Ran,
+    image: &[u8],
+    map: &[u8],
+    store: &mut [u16],
+    outputs: &mut [u16],
+    inputs: &[u16],
+    m: u32,
+) -> Ran
+    requires { ⌜ ran .count + m ≤ 4294967295 ⌝ }
+    ensures { λ r. ⌜ answered r (now (store .exit)) (now (outputs .exit)) ≡ joined (answered ran (now (store .entry)) (now (outputs .entry))) (runOf (now (image .entry)) (now (map .entry)) (now (inputs .entry)) m (state (ran .machine) (now (store .entry)) (now (outputs .entry)))) ⌝ }
+{
+    let machine = ran.machine;
+    let next = run(machine, image, map, store, outputs, inputs, m);
+    let ending = next.ending;
+    let after = next.machine;
+    Ran {
+        ending,
+        count: ran.count + next.count,
+        machine: after,
+    }
+}
+
+// A run of `done` steps, made one at a time.
+struct Done {
+    ran: Ran,
+    done: u32,
+}
+
+// Up to n steps, each of which is shown.
+fn turns(
+    machine: Machine,
+    image: &[u8],
+    map: &[u8],
+    store: &mut [u16],
+    outputs: &mut [u16],
+    inputs: &[u16],
+    n: u32,
+    program: Program,
+    limit: u32,
+    before: &mut [u16],
+    last: &mut [u16],
+) -> Done
+    ensures { λ r. ⌜ (answered (r .ran) (now (store .exit)) (now (outputs .exit)) ≡ runOf (now (image .entry)) (now (map .entry)) (now (inputs .entry)) (r .done) (state machine (now (store .entry)) (now (outputs .entry)))) × (r .done ≤ n) ⌝ }
+{
+    let mut ran = run(machine, image, map, store, outputs, inputs, 0);
+    let mut done = 0u32;
+    while done < n {
+        let next = more(ran, image, map, store, outputs, inputs, 1);
+        put_step(
+            ran,
+            next,
+            program,
+            image,
+            limit,
+            before,
+            store,
+            last,
+            outputs,
+        );
+        ran = next;
+        done += 1;
+        let ending = ran.ending;
+        if !is_spent(ending) {
+            return Done { ran, done };
+        }
+    }
+    Done { ran, done }
+}
+
+// A run of n steps, each of which is shown: it answers and leaves what one run of n steps does. Where it stops before, the rest of
+// the budget is run from there, which finds the same stop.
+pub fn traced(
+    machine: Machine,
+    image: &[u8],
+    map: &[u8],
+    store: &mut [u16],
+    outputs: &mut [u16],
+    inputs: &[u16],
+    n: u32,
+    program: Program,
+    limit: u32,
+    before: &mut [u16],
+    last: &mut [u16],
+) -> Ran
+    ensures { λ r. ⌜ answered r (now (store .exit)) (now (outputs .exit)) ≡ runOf (now (image .entry)) (now (map .entry)) (now (inputs .entry)) n (state machine (now (store .entry)) (now (outputs .entry))) ⌝ }
+{
+    let t = turns(
+        machine,
+        image,
+        map,
+        store,
+        outputs,
+        inputs,
+        n,
+        program,
+        limit,
+        before,
+        last,
+    );
+    let ran = t.ran;
+    let done = t.done;
+    if done < n {
+        return more(ran, image, map, store, outputs, inputs, n - done);
+    }
+    ran
+}

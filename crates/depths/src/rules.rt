@@ -214,7 +214,7 @@ pub fn is_jump(op: u8) -> bool
 }
 
 // 027, 042 and 062 name a module.
-fn names_module(op: u8) -> bool
+pub fn names_module(op: u8) -> bool
     ensures { λ r. ⌜ r ≡ namesModule op ⌝ }
 {
     if op == 0o27 {

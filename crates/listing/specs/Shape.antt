@@ -10,14 +10,11 @@ use Rattle.mcode.specs.Opcode.{lengths}
 use Rattle.mcode.specs.Image.{codeByte, entryOf, paramsOf, resultsOf}
 use Rattle.mcode.specs.Depths.{namesModule, target}
 use Rattle.mcode.specs.declared.Module.{Module}
+use Rattle.depths.specs.Cases.{jumping}
 use Rattle.listing.specs.declared.instruction.Instruction.{Instruction}
 use Rattle.listing.specs.declared.instruction.Operand.{Operand}
 use Rattle.listing.specs.declared.instruction.Operand.the-variants.{Nothing, Byte, Word, Jump, Global, Call, FarCall}
 use Rattle.listing.specs.declared.procedure.Procedure.{Procedure}
-
--- 030 to 037
-abbrev pub isJump : ℕ → Bool
-isJump op = and (leb 0o30 op) (ltb op 0o40)
 
 -- "356 n", "360 n"
 abbrev pub isCall : ℕ → Bool
@@ -25,7 +22,7 @@ isCall op = or (eqb op 0o356) (eqb op 0o360)
 
 unfoldable pub operandOf : ℕ → Operand
 operandOf op =
-    pick (isJump op) Jump
+    pick (jumping op) Jump
     (pick (namesModule op) Global
     (pick (eqb op 0o355) FarCall
     (pick (isCall op) Call
@@ -48,7 +45,7 @@ unfoldable pub OperandsAgree : Type 0
 OperandsAgree = (op : ℕ) → op < 256 → 0 < getD lengths op 0 → getD lengths op 0 ≡ 1 + bytesOf op (operandOf op)
 
 abbrev pub targetOf : ℕ → ℕ → ℕ → ℕ → ℕ
-targetOf op s b c = pick (isJump op) (target op s b c) 0
+targetOf op s b c = pick (jumping op) (target op s b c) 0
 
 -- the size of an instruction at p, or 0 where it would end past the code
 abbrev pub fitting : ℕ → ℕ → ℕ → ℕ

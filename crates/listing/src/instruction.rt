@@ -1,10 +1,13 @@
 // An instruction of a module's code, with its operands.
 use crate::bytes::byte_from;
+use depths::rules::is_jump;
+use depths::rules::names_module;
+use depths::rules::wide;
 use mcode::Module;
 ghost use mathlib.Core.Path.{_≡_};
-ghost use Prim.Native.Nat.{_≤_, _<_};
-ghost use Rattle.mcode.specs.Depths.{namesModule, target};
-ghost use Rattle.listing.specs.Shape.{isJump, isCall, operandOf, fitting, targetOf, instructionAt};
+ghost use Prim.Native.Nat.{_≤_};
+ghost use Rattle.mcode.specs.Depths.{target};
+ghost use Rattle.listing.specs.Shape.{isCall, operandOf, fitting, targetOf, instructionAt};
 
 // The opcode, its length (0: it is not listed, or its operands do not lie in the code), the two bytes after it, and for a jump the
 // position that it goes to, else 0.
@@ -25,34 +28,6 @@ pub enum Operand {
     Global,
     Call,
     FarCall,
-}
-
-fn wide(x: u8) -> usize
-    ensures { λ r. ⌜ (r ≡ x) × (r < 256) ⌝ }
-{
-    x as usize
-}
-
-fn is_jump(op: u8) -> bool
-    ensures { λ r. ⌜ r ≡ isJump op ⌝ }
-{
-    if op < 0o30 {
-        return false;
-    }
-    op < 0o40
-}
-
-// 027, 042 and 062.
-fn names_module(op: u8) -> bool
-    ensures { λ r. ⌜ r ≡ namesModule op ⌝ }
-{
-    if op == 0o27 {
-        return true;
-    }
-    if op == 0o42 {
-        return true;
-    }
-    op == 0o62
 }
 
 // 356 and 360.

@@ -112,13 +112,7 @@ fn print_begun(
     put_line_end(text, next)
 }
 
-fn print_ran(
-    text: &mut [u8; 4096],
-    at: usize,
-    ran: Ran,
-    outputs: &[u16],
-    store: Sums,
-) -> usize {
+fn print_ran(text: &mut [u8; 4096], at: usize, ran: Ran, outputs: &[u16], store: Sums) -> usize {
     let ending = ran.ending;
     let machine = ran.machine;
     let mut next = put_named(text, at, b"run", number_of(ending) as u64);

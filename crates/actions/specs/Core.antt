@@ -1,6 +1,6 @@
 -- The registers as the stepping loop holds them, and how what it leaves is what mcode defines.
 use mathlib.Core.Path.{_≡_}
-use Prim.Native.Nat.{ℕ, _+_}
+use Prim.Native.Nat.{ℕ, _+_, _-_, _≤_}
 use mathlib.Core.List.{List}
 use lib.ListN.{getD}
 use lib.Dec.{eqb}
@@ -16,9 +16,9 @@ use Rattle.mcode.specs.declared.Value.{Value}
 use Rattle.actions.specs.declared.Core.{Core}
 use Rattle.actions.specs.declared.Stepped.{Stepped}
 
--- the registers of the definition
+-- the registers of the definition: pc is the place in the image, so the position is counted from the start of the module's code
 abbrev pub shown : Core → Registers
-shown r = record { unit = r .unit; pc = position (r .pc); l = r .l; s = r .s; h = r .h; p = r .p; mask = r .mask; depth = r .depth }
+shown r = record { unit = r .unit; pc = position (r .pc - r .start); l = r .l; s = r .s; h = r .h; p = r .p; mask = r .mask; depth = r .depth }
 
 abbrev pub held : Core → List ℕ → List ℕ → List ℕ → State
 held r stack store out = state (machine (shown r) stack) store out
@@ -43,34 +43,40 @@ stepped n k r = record { stop = n; code = k; core = r }
 abbrev pub at : ℕ → ℕ → Core → Core
 at to d r = record { pc = to; depth = d; start = r .start; unit = r .unit; g = r .g; l = r .l; s = r .s; h = r .h; p = r .p; mask = r .mask }
 
--- an action, and an instruction with its operand bytes
-abbrev pub acted : Lent → Action → ℕ → State → Left
-acted lent a to x = leftBy x (performOf lent a (position to) x)
+-- an action of the instruction that the registers stand at and that ends at a place of the image
+abbrev pub acted : Lent → Action → ℕ → Core → List ℕ → List ℕ → List ℕ → Left
+acted lent a to r stack store out =
+    let x = held r stack store out in
+    leftBy x (performOf lent a (position (to - r .start)) x)
 
 -- a computed word put as `by` says, or its trap
-abbrev pub replaced : (Position → Machine → ℕ → Machine) → ℕ → Value → State → Left
-replaced by to v x = leftBy x (computed v (λ w. goes x (by (position to) (x .machine) w)))
+abbrev pub replaced : (Position → Machine → ℕ → Machine) → ℕ → Value → Core → List ℕ → List ℕ → List ℕ → Left
+replaced by to v r stack store out =
+    let x = held r stack store out in
+    leftBy x (computed v (λ w. goes x (by (position (to - r .start)) (x .machine) w)))
 
-unfoldable pub instruction : Lent → ℕ → ℕ → ℕ → State → Left
-instruction lent op b c x =
-    let r = x .machine .registers in
-    let d = decodeOf op b c r (basesOf (lent .program)) in
-    leftBy x (performOf lent (d .action) (position (r .pc .0 + d .size)) x)
+-- an instruction with its operand bytes
+unfoldable pub instruction : Lent → ℕ → ℕ → ℕ → Core → List ℕ → List ℕ → List ℕ → Left
+instruction lent op b c r stack store out =
+    let d = decodeOf op b c (shown r) (basesOf (lent .program)) in
+    acted lent (d .action) (r .pc + d .size) r stack store out
 
 -- the opcode that the stepping loop performs where its budget is spent: it is not listed, so no map marks it
 abbrev pub spentOp : ℕ
 spentOp = 0o340
 
 -- an instruction, or the spent opcode: "30 spent"
-unfoldable pub performed : Lent → ℕ → ℕ → ℕ → State → Left
-performed lent op b c x = pick (eqb op spentOp) (record { stop = 30; code = 0; state = x }) (instruction lent op b c x)
+unfoldable pub performed : Lent → ℕ → ℕ → ℕ → Core → List ℕ → List ℕ → List ℕ → Left
+performed lent op b c r stack store out =
+    pick (eqb op spentOp) (record { stop = 30; code = 0; state = held r stack store out }) (instruction lent op b c r stack store out)
 
--- the module stays
+-- the module stays, and the place in its code
 pub record Stays (r q : Core) : Type 0 where
   pub start : q .start ≡ r .start
   pub unit : q .unit ≡ r .unit
   pub g : q .g ≡ r .g
+  pub own : r .start ≤ r .pc → q .start ≤ q .pc
 
 -- operand byte k
 abbrev pub operandAt : List ℕ → Core → ℕ → ℕ
-operandAt image r k = getD image (r .start + (r .pc + k)) 0
+operandAt image r k = getD image (r .pc + k) 0

@@ -26,11 +26,12 @@ pub record Tabled (table : List ℕ) (program : Program) : Type 0 where
   pub few : program .count ≤ 32
   pub modules : (k : ℕ) → k < 32 → moduleOf program k ≡ moduleIn table k
 
--- the module's own numbers are in the registers
+-- the module's own numbers are in the registers, and the place is in its code
 pub record Anchored (table : List ℕ) (r : Core) : Type 0 where
   pub few : r .unit < 32
   pub start : r .start ≡ moduleIn table (r .unit) .code
   pub g : r .g .0 ≡ moduleIn table (r .unit) .base
+  pub own : r .start ≤ r .pc
 
 -- the bases that the instructions use are those of the registers and the table
 pub record Based (table : List ℕ) (r : Core) (bases : List ℕ) : Type 0 where
@@ -49,7 +50,8 @@ pub record Needs (t l s : ℕ) (r : Core) (n : ℕ) : Type 0 where
   pub deep : t ≤ r .depth
   pub room : r .depth + l ≤ 16 + t
   pub most : r .depth ≤ 16
-  pub bytes : r .start + r .pc + s ≤ n
+  pub bytes : r .pc + s ≤ n
+  pub own : r .start ≤ r .pc
   pub near : r .pc ≤ 65535
 
 -- the same as the opcode's row of the table says it

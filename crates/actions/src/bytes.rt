@@ -14,12 +14,12 @@ ghost use mathlib.Core.List.{List};
 ghost use Prim.Native.Nat.{ℕ, _≤_, _<_};
 ghost use Rattle.mcode.specs.Step.{Lent};
 ghost use Rattle.mcode.specs.Decode as Act;
-ghost use Rattle.actions.specs.Core.{held, result, acted, Stays};
+ghost use Rattle.actions.specs.Core.{result, acted, Stays};
 
 // Byte a of the string at c: 205.
 pub fn load_byte(r: Core, stack: &mut [u16; 16], store: &[u16], to: usize) -> Stepped
-    requires { ⌜ (1 < r .depth) × (r .depth ≤ 16) ⌝ }
-    ensures { λ q. ⌜ ((lent : Lent) (out : List ℕ) → result q (now (stack .exit)) (now (store .entry)) out ≡ acted lent Act.LoadByte to (held r (now (stack .entry)) (now (store .entry)) out)) × Stays r (q .core) ⌝ }
+    requires { ⌜ (1 < r .depth) × (r .depth ≤ 16) × (r .start ≤ to) ⌝ }
+    ensures { λ q. ⌜ ((lent : Lent) (out : List ℕ) → result q (now (stack .exit)) (now (store .entry)) out ≡ acted lent Act.LoadByte to r (now (stack .entry)) (now (store .entry)) out) × Stays r (q .core) ⌝ }
 {
     let i = top_of(r, stack);
     let n = std::num::wrapping_add_u16(second_of(r, stack), i / 2) as usize;
@@ -32,8 +32,8 @@ pub fn load_byte(r: Core, stack: &mut [u16; 16], store: &[u16], to: usize) -> St
 
 // Byte c of the string at e set to a modulo 256: 225.
 pub fn save_byte(r: Core, stack: &mut [u16; 16], store: &mut [u16], to: usize) -> Stepped
-    requires { ⌜ (2 < r .depth) × (r .depth ≤ 16) ⌝ }
-    ensures { λ q. ⌜ ((lent : Lent) (out : List ℕ) → result q (now (stack .exit)) (now (store .exit)) out ≡ acted lent Act.StoreByte to (held r (now (stack .entry)) (now (store .entry)) out)) × Stays r (q .core) ⌝ }
+    requires { ⌜ (2 < r .depth) × (r .depth ≤ 16) × (r .start ≤ to) ⌝ }
+    ensures { λ q. ⌜ ((lent : Lent) (out : List ℕ) → result q (now (stack .exit)) (now (store .exit)) out ≡ acted lent Act.StoreByte to r (now (stack .entry)) (now (store .entry)) out) × Stays r (q .core) ⌝ }
 {
     let i = second_of(r, stack);
     let n = std::num::wrapping_add_u16(third_of(r, stack), i / 2) as usize;

@@ -11,12 +11,12 @@ ghost use Prim.Native.Nat.{ℕ, _≤_, _<_};
 ghost use lib.ListN.{length};
 ghost use Rattle.mcode.specs.Step.{Lent};
 ghost use Rattle.mcode.specs.Decode as Act;
-ghost use Rattle.actions.specs.Core.{held, result, acted, Stays};
+ghost use Rattle.actions.specs.Core.{result, acted, Stays};
 
 // The store word at c becomes input a: 240.
 pub fn read(r: Core, stack: &mut [u16; 16], store: &mut [u16], inputs: &[u16], to: usize) -> Stepped
-    requires { ⌜ (1 < r .depth) × (r .depth ≤ 16) × (length (now inputs) ≡ 16) ⌝ }
-    ensures { λ q. ⌜ ((lent : Lent) → lent .inputs ≡ now (inputs .entry) → (out : List ℕ) → result q (now (stack .exit)) (now (store .exit)) out ≡ acted lent Act.Read to (held r (now (stack .entry)) (now (store .entry)) out)) × Stays r (q .core) ⌝ }
+    requires { ⌜ (1 < r .depth) × (r .depth ≤ 16) × (length (now inputs) ≡ 16) × (r .start ≤ to) ⌝ }
+    ensures { λ q. ⌜ ((lent : Lent) → lent .inputs ≡ now (inputs .entry) → (out : List ℕ) → result q (now (stack .exit)) (now (store .exit)) out ≡ acted lent Act.Read to r (now (stack .entry)) (now (store .entry)) out) × Stays r (q .core) ⌝ }
 {
     let a = top_of(r, stack) as usize;
     let i = second_of(r, stack) as usize;
@@ -33,8 +33,8 @@ pub fn read(r: Core, stack: &mut [u16; 16], store: &mut [u16], inputs: &[u16], t
 
 // Output c becomes a: 241.
 pub fn write(r: Core, stack: &mut [u16; 16], outputs: &mut [u16], to: usize) -> Stepped
-    requires { ⌜ (1 < r .depth) × (r .depth ≤ 16) × (length (now outputs) ≡ 16) ⌝ }
-    ensures { λ q. ⌜ ((lent : Lent) (store : List ℕ) → result q (now (stack .exit)) store (now (outputs .exit)) ≡ acted lent Act.Write to (held r (now (stack .entry)) store (now (outputs .entry)))) × Stays r (q .core) ⌝ }
+    requires { ⌜ (1 < r .depth) × (r .depth ≤ 16) × (length (now outputs) ≡ 16) × (r .start ≤ to) ⌝ }
+    ensures { λ q. ⌜ ((lent : Lent) (store : List ℕ) → result q (now (stack .exit)) store (now (outputs .exit)) ≡ acted lent Act.Write to r (now (stack .entry)) store (now (outputs .entry))) × Stays r (q .core) ⌝ }
 {
     let c = second_of(r, stack) as usize;
     if 15 < c {

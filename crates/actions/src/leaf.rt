@@ -21,16 +21,16 @@ pub fn wide(x: u8) -> u16
 
 // Operand byte k of the instruction.
 pub fn operand(r: Core, image: &[u8], k: usize) -> u16
-    requires { ⌜ r .start + r .pc + k < length (now image) ⌝ }
+    requires { ⌜ r .pc + k < length (now image) ⌝ }
     ensures { λ q. ⌜ (q ≡ operandAt (now (image .entry)) r k) × (q < 256) ⌝ }
 {
-    let i = r.start + (r.pc + k);
+    let i = r.pc + k;
     wide(image[i])
 }
 
 // The operand word.
 pub fn operand_word(r: Core, image: &[u8]) -> u16
-    requires { ⌜ r .start + r .pc + 2 < length (now image) ⌝ }
+    requires { ⌜ r .pc + 2 < length (now image) ⌝ }
     ensures { λ q. ⌜ q ≡ wordOf (operandAt (now (image .entry)) r 1) (operandAt (now (image .entry)) r 2) ⌝ }
 {
     let b = operand(r, image, 1);
@@ -53,20 +53,20 @@ pub fn base_of(table: &[u16; 193], k: u16) -> Address
     Address(table[i])
 }
 
-// A jump counts from the operand's first byte.
+// A jump counts from the operand's first byte, in the positions of the module; what is answered is a place in the image.
 pub fn forward(r: Core, n: u16) -> usize
-    requires { ⌜ r .pc ≤ 65535 ⌝ }
-    ensures { λ q. ⌜ q ≡ ahead (r .pc + 1) n ⌝ }
+    requires { ⌜ (r .start ≤ r .pc) × (r .pc ≤ 65535) ⌝ }
+    ensures { λ q. ⌜ (q - r .start ≡ ahead (r .pc - r .start + 1) n) × (r .start ≤ q) ⌝ }
 {
-    (r.pc + 1 + n as usize) % 65536
+    (r.pc - r.start + 1 + n as usize) % 65536 + r.start
 }
 
 pub fn back(r: Core, n: u16) -> usize
-    requires { ⌜ r .pc ≤ 65535 ⌝ }
-    ensures { λ q. ⌜ q ≡ behind (r .pc + 1) n ⌝ }
+    requires { ⌜ (r .start ≤ r .pc) × (r .pc ≤ 65535) ⌝ }
+    ensures { λ q. ⌜ (q - r .start ≡ behind (r .pc - r .start + 1) n) × (r .start ≤ q) ⌝ }
 {
     let k = 65536 - n as usize;
-    (r.pc + 1 + k) % 65536
+    (r.pc - r.start + 1 + k) % 65536 + r.start
 }
 
 pub fn top_of(r: Core, stack: &[u16; 16]) -> u16

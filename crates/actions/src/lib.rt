@@ -1,7 +1,8 @@
 // The actions of the instructions, one function each, over the registers as the stepping loop holds them.
 use mcode::Address;
 
-// The registers as the stepping loop holds them: those of mcode, with the start of the module's code in the image and its base.
+// The registers as the stepping loop holds them: those of mcode, with the start of the module's code in the image and its base;
+// pc is the place in the image, the start and the position.
 pub struct Core {
     pub pc: usize,
     pub depth: usize,

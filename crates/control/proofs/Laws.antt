@@ -1,7 +1,8 @@
--- The bases of the lent numbers are the definition's, and where the registers stay anchored. Assumes nothing.
+-- The bases of the lent numbers are the definition's, where the registers stay anchored, and places counted from a start. Assumes nothing.
 use mathlib.Core.Path.{_≡_, refl, sym, ap, _∙_}
 use mathlib.Core.List.{List}
-use Prim.Native.Nat.{ℕ, _+_, _*_, _<_}
+use Prim.Native.Nat.{ℕ, _+_, _*_, _-_, _≤_, _<_}
+use native.Mathlib.Omega.{arith}
 use lib.ListN.{getD, List·getD-map}
 use Rattle.mcode.specs.Image.{basesOf, noModule}
 use Rattle.mcode.specs.declared.Module.{Module}
@@ -19,13 +20,20 @@ pub based : {table : List ℕ} {program : Program} {r : Core} → Tabled table p
 based {table} {program} {r} t a = record { own = base-in t (r .unit) (a .few) ∙ sym (a .g); named = base-in t }
 
 pub anchored-on : {table : List ℕ} {r q : Core} → Anchored table r → Stays r q → Anchored table q
-anchored-on {table} {r} {q} a s = record { few = rw (s .unit) (a .few); start = rw (s .unit, s .start) (a .start); g = rw (s .unit, s .g) (a .g) }
+anchored-on {table} {r} {q} a s = record { few = rw (s .unit) (a .few); start = rw (s .unit, s .start) (a .start); g = rw (s .unit, s .g) (a .g); own = s .own (a .own) }
 
-pub anchored-in : (table : List ℕ) (k to l s : ℕ) (r : Core) (q : Stepped) → k < 32 → q ≡ stepped 0 0 (inModule table k to l s r) → Anchored table (q .core)
-anchored-in table k to l s r q h e = rw e (record { few = h; start = refl; g = refl })
+pub anchored-in : (table : List ℕ) (k at l s : ℕ) (r : Core) (q : Stepped) → k < 32 → q ≡ stepped 0 0 (inModule table k at l s r) → Anchored table (q .core)
+anchored-in table k at l s r q h e = rw e (record { few = h; start = refl; g = refl; own = omega arith })
 
 pub anchored-as : (table : List ℕ) (n : ℕ) (r : Core) (q : Stepped) → Anchored table r → q ≡ stepped n 0 r → Anchored table (q .core)
 anchored-as table n r q a e = rw e a
 
-pub stays-framed : (to d l s : ℕ) (r : Core) (q : Stepped) → q ≡ stepped 0 0 (inFrame to d l s r) → Stays r (q .core)
-stays-framed to d l s r q e = rw e (record { start = refl; unit = refl; g = refl })
+pub stays-framed : (to d l s : ℕ) (r : Core) (q : Stepped) → r .start ≤ to → q ≡ stepped 0 0 (inFrame to d l s r) → Stays r (q .core)
+stays-framed to d l s r q h e = rw e (record { start = refl; unit = refl; g = refl; own = λ o. h })
+
+-- a place that is counted from a start: its position, and that it is not before it
+pub from-start : (start at : ℕ) → start + at - start ≡ at
+from-start start at = omega arith
+
+pub after-start : (start at : ℕ) → start ≤ start + at
+after-start start at = omega arith

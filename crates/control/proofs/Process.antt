@@ -17,7 +17,7 @@ use Rattle.actions.specs.Core.{held, leftBy, result, stepped}
 use Rattle.actions.specs.Table.{Anchored, Lends}
 use Rattle.control.specs.Table.{firstBased, standsIn}
 use Rattle.control.specs.Transfer.{sized, resumed}
-use Rattle.control.proofs.Laws.{based}
+use Rattle.control.proofs.Laws.{based, from-start}
 use Rattle.control.proofs.Find.{find-stands, find}
 
 -- what the tests say
@@ -94,7 +94,7 @@ written-six g l at m s v p store =
     rw (b, c, d, e)
 
 pub anchored-resumed : (table : List ℕ) (k b p : ℕ) (x : Process) (r : Core) (q : Stepped) → k < 32 → q ≡ stepped 0 0 (resumed table k b p x r) → Anchored table (q .core)
-anchored-resumed table k b p x r q h e = rw e (record { few = h; start = refl; g = refl })
+anchored-resumed table k b p x r q h e = rw e (record { few = h; start = refl; g = refl; own = omega arith })
 
 -- a transfer to a process that passes the tests
 pub switched-in : {bytes table marks words : List ℕ} {lent : Lent} → Lends bytes table marks words lent → (r : Core) → Anchored table r
@@ -105,4 +105,4 @@ pub switched-in : {bytes table marks words : List ℕ} {lent : Lent} → Lends b
     (restored store (processAt store q .k) (processAt store q .s - 1 - processAt store q .k) (replicate 16 0))
     (savedStore (r .g .0) (position to) c (held r stack store []) (r .depth - 2)) out
 unfolding switched restoredMachine savedStore
-switched-in h r a b to c q stack store out s e = rw (process-in h (length store) q (processAt store q), s, e, find h _ _ _ e, based (h .tabled) a .own)
+switched-in h r a b to c q stack store out s e = rw (process-in h (length store) q (processAt store q), s, e, find h _ _ _ e, based (h .tabled) a .own, from-start)

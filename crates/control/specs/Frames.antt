@@ -22,7 +22,7 @@ pub record Framed (table : List ℕ) (w : ℕ) (r : Core) : Type 0 where
 abbrev pub Roomy : ℕ → Core → Type 0
 Roomy w r = (r .s .0 ≤ r .h .0) × (r .h .0 + 24 ≤ w) × (r .p .0 + 8 ≤ w) × (w ≤ 65535)
 
--- the registers at a position and a depth, in the module of this start, number and base, with this frame
+-- the registers at a place of the image and a depth, in the module of this start, number and base, with this frame
 abbrev pub placed : ℕ → ℕ → Address → ℕ → ℕ → ℕ → ℕ → Core → Core
 placed start unit g to d l s r = record { pc = to; depth = d; start = start; unit = unit; g = g; l = address l; s = address s; h = r .h; p = r .p; mask = r .mask }
 
@@ -30,9 +30,9 @@ placed start unit g to d l s r = record { pc = to; depth = d; start = start; uni
 abbrev pub inFrame : ℕ → ℕ → ℕ → ℕ → Core → Core
 inFrame to d l s r = placed (r .start) (r .unit) (r .g) to d l s r
 
--- in module k, at the depth of the registers
+-- at a position of module k, at the depth of the registers
 abbrev pub inModule : List ℕ → ℕ → ℕ → ℕ → ℕ → Core → Core
-inModule table k to l s r = placed (moduleIn table k .code) k (address (moduleIn table k .base)) to (r .depth) l s r
+inModule table k at l s r = placed (moduleIn table k .code) k (address (moduleIn table k .base)) (moduleIn table k .code + at) (r .depth) l s r
 
 -- the three words of a frame
 abbrev pub frame : List ℕ → ℕ → ℕ → ℕ → ℕ → List ℕ

@@ -20,4 +20,4 @@ pub record Controls (image table : List ℕ) (w op : ℕ) (r : Core) : Type 0 wh
   pub far : op ≡ 0o355 → (operandAt image r 1 < countIn table) × (operandAt image r 2 < procCount (moduleIn table (operandAt image r 1)))
   pub near : (op ≡ 0o356) ⊎ (op ≡ 0o360) → operandAt image r 1 < procCount (moduleIn table (r .unit))
   pub fixed : 0o361 ≤ op → op - 0o360 < procCount (moduleIn table (r .unit))
-  pub inside : r .pc + getD lengths op 0 ≤ 32767
+  pub inside : r .pc - r .start + getD lengths op 0 ≤ 32767

@@ -22,7 +22,7 @@ sized w q x =
 -- the process x at q in module k; "M only if b /= 0"
 abbrev pub resumed : List ℕ → ℕ → ℕ → ℕ → Process → Core → Core
 resumed table k b q x r = record {
-  pc = x .pc;
+  pc = moduleIn table k .code + x .pc;
   depth = x .k;
   start = moduleIn table k .code;
   unit = k;

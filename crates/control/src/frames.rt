@@ -63,19 +63,29 @@ pub fn framed(r: Core, depth: usize, to: usize, frame: u16, top: u16) -> Stepped
     settled(r, depth, to, r.start, r.unit, r.g, frame, top)
 }
 
-// In module k, at the depth of the registers.
-pub fn in_module(r: Core, table: &[u16; 193], k: usize, to: usize, frame: u16, top: u16) -> Stepped
+// At a position of module k, at the depth of the registers.
+pub fn in_module(r: Core, table: &[u16; 193], k: usize, at: u16, frame: u16, top: u16) -> Stepped
     requires { ⌜ k < 32 ⌝ }
-    ensures { λ q. ⌜ q ≡ stepped 0 0 (inModule (now (table .entry)) k to frame top r) ⌝ }
+    ensures { λ q. ⌜ q ≡ stepped 0 0 (inModule (now (table .entry)) k at frame top r) ⌝ }
 {
     let start = number(table, k, 1) as usize;
     let base = number(table, k, 4);
-    settled(r, r.depth, to, start, k as u16, Address(base), frame, top)
+    settled(
+        r,
+        r.depth,
+        start + at as usize,
+        start,
+        k as u16,
+        Address(base),
+        frame,
+        top,
+    )
 }
 
 // 353 b: "S+b above H is 33, else S += b."
 pub fn enter(r: Core, b: u16, to: usize) -> Stepped
-    ensures { λ q. ⌜ ((lent : Lent) (stack store out : List ℕ) → result q stack store out ≡ acted lent (Act.Enter b) to (held r stack store out)) × Stays r (q .core) ⌝ }
+    requires { ⌜ r .start ≤ to ⌝ }
+    ensures { λ q. ⌜ ((lent : Lent) (stack store out : List ℕ) → result q stack store out ≡ acted lent (Act.Enter b) to r stack store out) × Stays r (q .core) ⌝ }
 {
     let s = r.s.0 as usize + b as usize;
     let h = r.h.0 as usize;
@@ -88,8 +98,8 @@ pub fn enter(r: Core, b: u16, to: usize) -> Stepped
 
 // 350 n, and 351 with 1: "from L, n times the word at that address; puts it."
 pub fn follow(r: Core, stack: &mut [u16; 16], store: &[u16], n: u16, to: usize) -> Stepped
-    requires { ⌜ r .depth < 16 ⌝ }
-    ensures { λ q. ⌜ ((lent : Lent) (out : List ℕ) → result q (now (stack .exit)) (now (store .entry)) out ≡ acted lent (Act.Follow n) to (held r (now (stack .entry)) (now (store .entry)) out)) × Stays r (q .core) ⌝ }
+    requires { ⌜ (r .depth < 16) × (r .start ≤ to) ⌝ }
+    ensures { λ q. ⌜ ((lent : Lent) (out : List ℕ) → result q (now (stack .exit)) (now (store .entry)) out ≡ acted lent (Act.Follow n) to r (now (stack .entry)) (now (store .entry)) out) × Stays r (q .core) ⌝ }
 {
     let mut a = r.l.0;
     let mut left = n;
@@ -108,7 +118,7 @@ pub fn follow(r: Core, stack: &mut [u16; 16], store: &[u16], n: u16, to: usize) 
 fn back_here(r: Core, table: &[u16; 193], map: &[u8], store: &[u16], at: u16) -> Stepped
     requires { ⌜ Mapped (now table) (now map) ⌝ }
     requires { ⌜ Anchored (now table) r ⌝ }
-    requires { ⌜ (r .depth ≤ 16) × (r .l .0 + 1 < length (now store)) ⌝ }
+    requires { ⌜ (r .depth ≤ 16) × (r .l .0 + 1 < length (now store)) × (r .start < 65536) ⌝ }
     ensures { λ q. ⌜ ((lent : Lent) (bytes words : List ℕ) → Lends bytes (now (table .entry)) (now (map .entry)) words lent → (stack out : List ℕ) → result q stack (now (store .entry)) out ≡ leftBy (held r stack (now (store .entry)) out) (backTo lent (r .unit) at (held r stack (now (store .entry)) out))) × Stays r (q .core) ⌝ }
 {
     let k = r.unit as usize;
@@ -116,7 +126,7 @@ fn back_here(r: Core, table: &[u16; 193], map: &[u8], store: &[u16], at: u16) ->
     if stands(table, map, k, at, d) {
         let l = r.l.0;
         let i = l as usize + 1;
-        return framed(r, d, at as usize, store[i], l);
+        return framed(r, d, r.start + at as usize, store[i], l);
     }
     trapped(r, 34)
 }
@@ -133,7 +143,7 @@ fn back_there(r: Core, table: &[u16; 193], map: &[u8], store: &[u16], at: u16) -
     let k = find_base(table, store[i]);
     let d = r.depth;
     if stands(table, map, k, at, d) {
-        return in_module(r, table, k, at as usize, store[i + 1], l);
+        return in_module(r, table, k, at, store[i + 1], l);
     }
     trapped(r, 34)
 }
@@ -144,7 +154,8 @@ pub fn return_from(r: Core, table: &[u16; 193], map: &[u8], store: &[u16]) -> St
     requires { ⌜ Mapped (now table) (now map) ⌝ }
     requires { ⌜ Framed (now table) (length (now store)) r ⌝ }
     requires { ⌜ Anchored (now table) r ⌝ }
-    ensures { λ q. ⌜ ((lent : Lent) (bytes words : List ℕ) → Lends bytes (now (table .entry)) (now (map .entry)) words lent → (to : ℕ) (stack out : List ℕ) → result q stack (now (store .entry)) out ≡ acted lent Act.Return to (held r stack (now (store .entry)) out)) × Anchored (now (table .entry)) (q .core) ⌝ }
+    requires { ⌜ r .start < 65536 ⌝ }
+    ensures { λ q. ⌜ ((lent : Lent) (bytes words : List ℕ) → Lends bytes (now (table .entry)) (now (map .entry)) words lent → (to : ℕ) (stack out : List ℕ) → result q stack (now (store .entry)) out ≡ acted lent Act.Return to r stack (now (store .entry)) out) × Anchored (now (table .entry)) (q .core) ⌝ }
 {
     if r.h.0 < r.l.0 {
         return trapped(r, 34);

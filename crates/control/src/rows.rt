@@ -19,7 +19,7 @@ ghost use lib.Dec.{eqb};
 ghost use lib.ListN.{length};
 ghost use Rattle.mcode.specs.Word.{pick};
 ghost use Rattle.mcode.specs.Step.{Lent};
-ghost use Rattle.actions.specs.Core.{held, result, instruction, performed, spentOp, operandAt};
+ghost use Rattle.actions.specs.Core.{result, instruction, performed, spentOp, operandAt};
 ghost use Rattle.actions.specs.Table.{Anchored, Lends};
 ghost use Rattle.control.specs.Table.{Mapped};
 ghost use Rattle.control.specs.Rows.{Controls};
@@ -37,7 +37,7 @@ pub fn row14(
     requires { ⌜ op / 16 ≡ 14 ⌝ }
     requires { ⌜ ((op ≡ spentOp → ⊥) → Controls (now image) (now table) (length (now store)) op r × Mapped (now table) (now map)) ⌝ }
     requires { ⌜ Anchored (now table) r ⌝ }
-    ensures { λ q. ⌜ ((lent : Lent) (words : List ℕ) → Lends (now (image .entry)) (now (table .entry)) (now (map .entry)) words lent → (out : List ℕ) → result q (now (stack .exit)) (now (store .exit)) out ≡ performed lent op (operandAt (now (image .entry)) r 1) (operandAt (now (image .entry)) r 2) (held r (now (stack .entry)) (now (store .entry)) out)) × Anchored (now (table .entry)) (q .core) ⌝ }
+    ensures { λ q. ⌜ ((lent : Lent) (words : List ℕ) → Lends (now (image .entry)) (now (table .entry)) (now (map .entry)) words lent → (out : List ℕ) → result q (now (stack .exit)) (now (store .exit)) out ≡ performed lent op (operandAt (now (image .entry)) r 1) (operandAt (now (image .entry)) r 2) r (now (stack .entry)) (now (store .entry)) out) × Anchored (now (table .entry)) (q .core) ⌝ }
 {
     match op {
         0o340 => trapped(r, 30),
@@ -69,7 +69,7 @@ pub fn row14(
 
 // The procedure that 360 n or one of 361 to 377 names.
 fn callee(op: u8, r: Core, image: &[u8]) -> u16
-    requires { ⌜ (0o360 ≤ op) × (op ≡ 0o360 → r .start + r .pc + 1 < length (now image)) ⌝ }
+    requires { ⌜ (0o360 ≤ op) × (op ≡ 0o360 → r .pc + 1 < length (now image)) ⌝ }
     ensures { λ q. ⌜ q ≡ pick (eqb op 0o360) (operandAt (now (image .entry)) r 1) (op - 0o360) ⌝ }
 {
     if op == 0o360 {
@@ -78,10 +78,10 @@ fn callee(op: u8, r: Core, image: &[u8]) -> u16
     wide(op - 0o360)
 }
 
-// The position after it.
+// The place after it.
 fn after_call(op: u8, r: Core) -> usize
     requires { ⌜ r .pc ≤ 65535 ⌝ }
-    ensures { λ q. ⌜ (q ≡ r .pc + pick (eqb op 0o360) 2 1) × (q ≤ r .pc + 2) ⌝ }
+    ensures { λ q. ⌜ (q ≡ r .pc + pick (eqb op 0o360) 2 1) × (r .pc ≤ q) × (q ≤ r .pc + 2) ⌝ }
 {
     if op == 0o360 {
         return r.pc + 2;
@@ -94,7 +94,7 @@ pub fn row15(op: u8, r: Core, image: &[u8], table: &[u16; 193], store: &mut [u16
     requires { ⌜ op / 16 ≡ 15 ⌝ }
     requires { ⌜ Controls (now image) (now table) (length (now store)) op r ⌝ }
     requires { ⌜ Anchored (now table) r ⌝ }
-    ensures { λ q. ⌜ ((lent : Lent) (marks words : List ℕ) → Lends (now (image .entry)) (now (table .entry)) marks words lent → (stack out : List ℕ) → result q stack (now (store .exit)) out ≡ instruction lent op (operandAt (now (image .entry)) r 1) (operandAt (now (image .entry)) r 2) (held r stack (now (store .entry)) out)) × Anchored (now (table .entry)) (q .core) ⌝ }
+    ensures { λ q. ⌜ ((lent : Lent) (marks words : List ℕ) → Lends (now (image .entry)) (now (table .entry)) marks words lent → (stack out : List ℕ) → result q stack (now (store .exit)) out ≡ instruction lent op (operandAt (now (image .entry)) r 1) (operandAt (now (image .entry)) r 2) r stack (now (store .entry)) out) × Anchored (now (table .entry)) (q .core) ⌝ }
 {
     let n = callee(op, r, image);
     call(r, image, table, store, n, after_call(op, r))

@@ -13,7 +13,7 @@ use mcode::Machine;
 ghost use mathlib.Core.Path.{_≡_};
 ghost use mathlib.Core.Bool.{true};
 ghost use mathlib.Core.List.{List, [], _∷_};
-ghost use Prim.Native.Nat.{ℕ, _+_, _≤_, _<_};
+ghost use Prim.Native.Nat.{ℕ, _+_, _-_, _≤_, _<_};
 ghost use lib.Dec.{eqb};
 ghost use lib.ListN.{length, getD, replicate};
 ghost use Rattle.mcode.specs.Word.{pick};
@@ -94,11 +94,12 @@ fn resume(r: Core, table: &[u16; 193], store: &[u16], k: usize, b: u16, q: u16) 
     ensures { λ x. ⌜ x ≡ stepped 0 0 (resumed (now (table .entry)) k b q (processAt (now (store .entry)) q) r) ⌝ }
 {
     let i = q as usize;
-    let pc = word_at(store, i + 2) as usize;
+    let at = word_at(store, i + 2) as usize;
     let above = word_at(store, i + 4);
     let n = word_at(store, above as usize - 1);
     let depth = n as usize;
     let start = number(table, k, 1) as usize;
+    let pc = start + at;
     let unit = k as u16;
     let base = number(table, k, 4);
     let g = Address(base);
@@ -157,8 +158,8 @@ fn write_record(store: &mut [u16], p: usize, g: u16, l: u16, at: u16, mask: u16,
 // The process of the registers, with d words left on its stack, into the store; then word c.
 fn save_process(r: Core, stack: &[u16; 16], store: &mut [u16], d: usize, c: usize, to: usize)
     requires { ⌜ Roomy (length (now store)) r ⌝ }
-    requires { ⌜ (d ≤ 16) × (c < length (now store)) × (to < 65536) ⌝ }
-    ensures { λ q. ⌜ now (store .exit) ≡ savedStore (r .g .0) (position to) c (held r (now (stack .entry)) (now (store .entry)) []) d ⌝ }
+    requires { ⌜ (d ≤ 16) × (c < length (now store)) × (r .start ≤ to) × (to - r .start < 65536) ⌝ }
+    ensures { λ q. ⌜ now (store .exit) ≡ savedStore (r .g .0) (position (to - r .start)) c (held r (now (stack .entry)) (now (store .entry)) []) d ⌝ }
 {
     let s = r.s.0 as usize;
     save_words(stack, store, d, s);
@@ -170,7 +171,7 @@ fn save_process(r: Core, stack: &[u16; 16], store: &mut [u16], d: usize, c: usiz
         p,
         r.g.0,
         r.l.0,
-        to as u16,
+        (to - r.start) as u16,
         r.mask,
         (s + d + 1) as u16,
         (h + Machine::MARGIN) as u16,
@@ -191,8 +192,8 @@ fn exchange(
 )
     requires { ⌜ (n ≤ 16) × (a + n ≤ length (now store)) ⌝ }
     requires { ⌜ Roomy (length (now store)) r ⌝ }
-    requires { ⌜ (d ≤ 16) × (c < length (now store)) × (to < 65536) ⌝ }
-    ensures { λ q. ⌜ (now (stack .exit) ≡ restored (now (store .entry)) n a (replicate 16 0)) × (now (store .exit) ≡ savedStore (r .g .0) (position to) c (held r (now (stack .entry)) (now (store .entry)) []) d) ⌝ }
+    requires { ⌜ (d ≤ 16) × (c < length (now store)) × (r .start ≤ to) × (to - r .start < 65536) ⌝ }
+    ensures { λ q. ⌜ (now (stack .exit) ≡ restored (now (store .entry)) n a (replicate 16 0)) × (now (store .exit) ≡ savedStore (r .g .0) (position (to - r .start)) c (held r (now (stack .entry)) (now (store .entry)) []) d) ⌝ }
 {
     let words = words_at(store, a, n);
     save_process(r, stack, store, d, c, to);
@@ -214,8 +215,8 @@ fn switch(
     requires { ⌜ Mapped (now table) (now map) ⌝ }
     requires { ⌜ Framed (now table) (length (now store)) r ⌝ }
     requires { ⌜ Anchored (now table) r ⌝ }
-    requires { ⌜ (1 < r .depth) × (c < length (now store)) × (to < 65536) ⌝ }
-    ensures { λ x. ⌜ ((lent : Lent) (bytes words : List ℕ) → Lends bytes (now (table .entry)) (now (map .entry)) words lent → (out : List ℕ) → result x (now (stack .exit)) (now (store .exit)) out ≡ leftBy (held r (now (stack .entry)) (now (store .entry)) out) (switched lent b (position to) c q (held r (now (stack .entry)) (now (store .entry)) out))) × Anchored (now (table .entry)) (x .core) ⌝ }
+    requires { ⌜ (1 < r .depth) × (c < length (now store)) × (r .start ≤ to) × (to - r .start < 65536) ⌝ }
+    ensures { λ x. ⌜ ((lent : Lent) (bytes words : List ℕ) → Lends bytes (now (table .entry)) (now (map .entry)) words lent → (out : List ℕ) → result x (now (stack .exit)) (now (store .exit)) out ≡ leftBy (held r (now (stack .entry)) (now (store .entry)) out) (switched lent b (position (to - r .start)) c q (held r (now (stack .entry)) (now (store .entry)) out))) × Anchored (now (table .entry)) (x .core) ⌝ }
 {
     let i = q as usize;
     if !is_sized(store, i) {
@@ -246,8 +247,8 @@ pub fn transfer(
     requires { ⌜ Mapped (now table) (now map) ⌝ }
     requires { ⌜ Framed (now table) (length (now store)) r ⌝ }
     requires { ⌜ Anchored (now table) r ⌝ }
-    requires { ⌜ (1 < r .depth) × (to < 65536) ⌝ }
-    ensures { λ x. ⌜ ((lent : Lent) (bytes words : List ℕ) → Lends bytes (now (table .entry)) (now (map .entry)) words lent → (out : List ℕ) → result x (now (stack .exit)) (now (store .exit)) out ≡ acted lent (Act.Transfer b) to (held r (now (stack .entry)) (now (store .entry)) out)) × Anchored (now (table .entry)) (x .core) ⌝ }
+    requires { ⌜ (1 < r .depth) × (r .start ≤ to) × (to - r .start < 65536) ⌝ }
+    ensures { λ x. ⌜ ((lent : Lent) (bytes words : List ℕ) → Lends bytes (now (table .entry)) (now (map .entry)) words lent → (out : List ℕ) → result x (now (stack .exit)) (now (store .exit)) out ≡ acted lent (Act.Transfer b) to r (now (stack .entry)) (now (store .entry)) out) × Anchored (now (table .entry)) (x .core) ⌝ }
 {
     let a = top_of(r, stack) as usize;
     if store.len() <= a {

@@ -132,7 +132,7 @@ module _ (image table map inputs : List ℕ) (w : ℕ) (P : Prepared image table
     pub listed : 1 ≤ getD lengths (opcodeAt image r) 0
     listed = listed-of image table map w P stack r good-here (G .anchored)
 
-    pub near : r .pc ≤ 32767
+    pub near : r .pc - r .start ≤ 32767
     near =
         let g = good-of (parse image .program) map w (machine (shown r) stack) good-here in
         omega (arith, g .at .within, P .told .laid .sound (r .unit) (g .at .loaded) .short)
@@ -161,10 +161,10 @@ module _ (image table map inputs : List ℕ) (w : ℕ) (P : Prepared image table
           let p : n + 1 - left ≡ n - (left - 1) = omega (arith, G .more) in
           turn-stop lent (held r stack store outputs) (result q st so ou) n (left - 1) (omega (arith, G .most, G .more)) e s ∙ sym (rw p at (G .rest))
 
-      pub stands-still : (q .stop ≡ 0 → ⊥) → (q .core .unit < 32) × (q .core .pc ≤ 32767)
+      pub stands-still : (q .stop ≡ 0 → ⊥) → (q .core .unit < 32) × (q .core .start ≤ q .core .pc) × (q .core .pc - q .core .start ≤ 32767)
       stands-still s =
           let same = stop-same lent (held r stack store outputs) (result q st so ou) (left - 1) e s in
-          (a .few, omega (arith, ap (λ (y : State). y .machine .registers .pc .0) same, near))
+          (a .few, a .own, omega (arith, ap (λ (y : State). y .machine .registers .pc .0) same, near))
 
 -- a machine's module is one of 32
 pub loaded-few : (image table map : List ℕ) (w : ℕ) → Prepared image table map w → (m : Machine) → isMachine (parse image .program) map w m ≡ true → m .registers .unit < 32

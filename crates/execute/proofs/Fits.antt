@@ -20,6 +20,7 @@ use Rattle.actions.specs.Core.{shown, operandAt}
 use Rattle.actions.specs.Table.{moduleIn, Anchored}
 use Rattle.control.specs.Table.{countIn, Entered, Mapped}
 use Rattle.execute.specs.Stepping.{Asks, Prepared, opcodeAt}
+use Rattle.execute.proofs.Laws.{place, place-on}
 
 module _ (image table map : List ℕ) (w : ℕ) (P : Prepared image table map w) where
   abbrev program : Program
@@ -55,7 +56,7 @@ module _ (image table map : List ℕ) (w : ℕ) (P : Prepared image table map w)
 
     operands : Operands program (moduleOf program (r .unit)) (opcodeAt image r) (operandAt image r 1) (operandAt image r 2)
     unfolding OperandsExist
-    operands = rw start at (operands-exist image map (P .fits) w (machine (shown r) stack) good)
+    operands = rw (start, place (anchored .own), place-on (anchored .own) 1, place-on (anchored .own) 2) at (operands-exist image map (P .fits) w (machine (shown r) stack) good)
 
     in-table : (k : ℕ) → k < program .count → k < countIn table
     in-table k h = omega (arith, h, P .tabled .count)
@@ -66,25 +67,29 @@ module _ (image table map : List ℕ) (w : ℕ) (P : Prepared image table map w)
     g : Good program map w (machine (shown r) stack)
     g = good-of program map w (machine (shown r) stack) good
 
-    rules : Rules image program u (marksOf map u) (r .pc) (r .depth) (codeByte image u (r .pc)) (codeByte image u (r .pc + 1)) (codeByte image u (r .pc + 2))
-    rules = rules-at image program u (marksOf map u) (r .pc) (r .depth) (follows-at image program map (P .fits) (r .unit) (r .pc) (r .depth) (g .at))
+    abbrev at : ℕ
+    at = r .pc - r .start
+
+    rules : Rules image program u (marksOf map u) at (r .depth) (codeByte image u at) (codeByte image u (at + 1)) (codeByte image u (at + 2))
+    rules = rules-at image program u (marksOf map u) at (r .depth) (follows-at image program map (P .fits) (r .unit) at (r .depth) (g .at))
 
     pub listed-of : 1 ≤ getD lengths (opcodeAt image r) 0
-    listed-of = rw start at (rules .listed)
+    listed-of = rw (start, place (anchored .own)) at (rules .listed)
 
     pub asks-of : Asks image table map w (opcodeAt image r) r
     asks-of =
         let sound = P .told .laid .sound (r .unit) (g .at .loaded) in
-        let found : getD takens (opcodeAt image r) 0 ≤ r .depth = rw start at (rules .found) in
-        let room : r .depth - getD takens (opcodeAt image r) 0 + getD lefts (opcodeAt image r) 0 ≤ 16 = rw start at (rules .room) in
-        let whole : r .pc + getD lengths (opcodeAt image r) 0 ≤ u .length = rw start at (rules .whole) in
+        let found : getD takens (opcodeAt image r) 0 ≤ r .depth = rw (start, place (anchored .own)) at (rules .found) in
+        let room : r .depth - getD takens (opcodeAt image r) 0 + getD lefts (opcodeAt image r) 0 ≤ 16 = rw (start, place (anchored .own)) at (rules .room) in
+        let whole : at + getD lengths (opcodeAt image r) 0 ≤ u .length = rw (start, place (anchored .own)) at (rules .whole) in
         let end : r .start + u .length ≤ length image = rw start at (sound .within) in
-        let short : r .pc + getD lengths (opcodeAt image r) 0 ≤ 32767 = omega (arith, whole, sound .short) in
+        let bytes : r .pc + getD lengths (opcodeAt image r) 0 ≤ length image = omega (arith, whole, end, anchored .own) in
+        let short : at + getD lengths (opcodeAt image r) 0 ≤ 32767 = omega (arith, whole, sound .short) in
         record {
           listed = λ n. listed-of;
           named = λ e. in-table _ (operands .named e);
           controls = record {
-            ready = record { deep = found; room = omega (arith, found, room); most = g .at .few; bytes = omega (arith, whole, end); near = omega (arith, short) };
+            ready = record { deep = found; room = omega (arith, found, room); most = g .at .few; bytes = bytes; own = anchored .own; near = omega (arith, bytes, P .told .brief) };
             framed = record { loaded = in-table _ (g .at .loaded); most = g .at .few; low = g .low; high = g .high; proc = g .proc; short = P .small };
             entered = entered;
             far = λ e. let l = in-table _ (operands .far e .0) in (l, rw (is (operandAt image r 1) l) at (operands .far e .1));

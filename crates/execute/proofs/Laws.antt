@@ -2,7 +2,7 @@
 use mathlib.Core.Path.{_≡_, refl, sym, _∙_}
 use mathlib.Core.Logic.{_⊎_, inl, inr}
 use mathlib.Core.Bool.{Bool, true, false, false≢true}
-use Prim.Native.Nat.{ℕ, zero, suc, _≤_, _<_, _/_}
+use Prim.Native.Nat.{ℕ, zero, suc, _+_, _-_, _≤_, _<_, _/_}
 use mathlib.Core.List.{List, [], _∷_}
 use lib.ListN.{getD, length}
 use lib.Dec.{eqb, ltb}
@@ -13,7 +13,6 @@ use Rattle.mcode.specs.Word.{pick, and, or, allBelow}
 use Rattle.mcode.specs.Opcode.{lengths, takens, lefts}
 use Rattle.mcode.specs.Depths.{namesModule}
 use Rattle.mcode.specs.Image.{procCount}
-use Rattle.mcode.specs.Machine.{State}
 use Rattle.mcode.specs.Step.{Lent, stepOf}
 use Rattle.actions.specs.declared.Core.{Core}
 use Rattle.actions.specs.Core.{instruction, performed, spentOp, leftBy, held, operandAt}
@@ -21,10 +20,20 @@ use Rattle.actions.specs.Table.{moduleIn, Lends, Anchored, Needs}
 use Rattle.rows_high.specs.Rows.{Stacked}
 use Rattle.execute.specs.Stepping.{Asks, opcodeAt, chosenOp, turned}
 
+-- ---- places of the image and positions of the code, which begins at s: p is a place in it
+pub place : {s p : ℕ} → s ≤ p → s + (p - s) ≡ p
+place h = omega (arith, h)
+
+pub place-on : {s p : ℕ} → s ≤ p → (k : ℕ) → s + (p - s + k) ≡ p + k
+place-on h k = omega (arith, h)
+
+position-on : {s p : ℕ} → s ≤ p → (k : ℕ) → p + k - s ≡ p - s + k
+position-on h k = omega (arith, h)
+
 step-is : {image table map inputs : List ℕ} {lent : Lent} (r : Core) (stack store out : List ℕ) → Lends image table map inputs lent → Anchored table r
-    → instruction lent (opcodeAt image r) (operandAt image r 1) (operandAt image r 2) (held r stack store out) ≡ leftBy (held r stack store out) (stepOf lent (held r stack store out))
+    → instruction lent (opcodeAt image r) (operandAt image r 1) (operandAt image r 2) r stack store out ≡ leftBy (held r stack store out) (stepOf lent (held r stack store out))
 unfolding instruction stepOf
-step-is r stack store out h a = rw (h .image, h .tabled .modules (r .unit) (a .few), a .start)
+step-is r stack store out h a = rw (h .image, h .tabled .modules (r .unit) (a .few), ← a .start, place (a .own), place-on (a .own) 1, place-on (a .own) 2, position-on (a .own))
 
 -- ---- the rows that take and leave the same for each listed opcode: 0 and 2 to 7, by one computed test of the table
 abbrev rowTakes : List ℕ
@@ -68,7 +77,7 @@ module _ {image table map : List ℕ} {w op : ℕ} {r : Core} (a : Asks image ta
   within e = omega (arith, a .named e, a .controls .entered .few)
 
   pub stacked : Stacked op r
-  stacked = let n = a .controls .ready in record { deep = n .deep; room = n .room; most = n .most; near = n .near }
+  stacked = let n = a .controls .ready in record { deep = n .deep; room = n .room; most = n .most; own = n .own; near = n .near }
 
   -- an opcode of another row than the spent one's is listed
   pub listed-in : (k : ℕ) → op / 16 ≡ k → eqb k 14 ≡ false → 1 ≤ getD lengths op 0
@@ -83,7 +92,7 @@ module _ {image table map : List ℕ} {w op : ℕ} {r : Core} (a : Asks image ta
         listed = λ n. absurd (n refl);
         named = λ e. absurd (false≢true e);
         controls = record {
-          ready = record { deep = omega arith; room = omega (arith, c .ready .most); most = c .ready .most; bytes = omega (arith, c .ready .bytes); near = c .ready .near };
+          ready = record { deep = omega arith; room = omega (arith, c .ready .most); most = c .ready .most; bytes = omega (arith, c .ready .bytes); own = c .ready .own; near = c .ready .near };
           framed = c .framed;
           entered = c .entered;
           far = λ e. absurd (wrong 0o355 (omega arith) e);
@@ -121,13 +130,14 @@ listed-not-spent : {op : ℕ} → 1 ≤ getD lengths op 0 → op ≡ spentOp →
 unfolding lengths
 listed-not-spent {op} l e = let z : 1 ≤ 0 = rw e at l in omega (arith, z)
 
-performed-as : (lent : Lent) (op b c : ℕ) (x : State) → (op ≡ spentOp → ⊥) → instruction lent op b c x ≡ performed lent op b c x
+performed-as : (lent : Lent) (op b c : ℕ) (r : Core) (stack store out : List ℕ) → (op ≡ spentOp → ⊥) → instruction lent op b c r stack store out ≡ performed lent op b c r stack store out
 unfolding performed
-performed-as lent op b c x n = rw (ne-eqb op spentOp n)
+performed-as lent op b c r stack store out n = rw (ne-eqb op spentOp n)
 
 -- an opcode of another row than the spent one's
-pub in-row : (lent : Lent) (op b c : ℕ) (x : State) (k : ℕ) → op / 16 ≡ k → eqb k 14 ≡ false → instruction lent op b c x ≡ performed lent op b c x
-in-row lent op b c x k row n = performed-as lent op b c x (other-row k row n)
+pub in-row : (lent : Lent) (op b c : ℕ) (r : Core) (stack store out : List ℕ) (k : ℕ) → op / 16 ≡ k → eqb k 14 ≡ false
+    → instruction lent op b c r stack store out ≡ performed lent op b c r stack store out
+in-row lent op b c r stack store out k row n = performed-as lent op b c r stack store out (other-row k row n)
 
 module _ {image table map : List ℕ} {w : ℕ} {r : Core} (a : Asks image table map w (opcodeAt image r) r) where
   pub asks-turn : (n : ℕ) → Asks image table map w (chosenOp n (opcodeAt image r)) r
@@ -138,11 +148,11 @@ module _ {image table map : List ℕ} {w : ℕ} {r : Core} (a : Asks image table
       go false = a
 
   pub turn-is : {inputs : List ℕ} {lent : Lent} (stack store out : List ℕ) (n : ℕ) → Lends image table map inputs lent → 1 ≤ getD lengths (opcodeAt image r) 0
-      → performed lent (chosenOp n (opcodeAt image r)) (operandAt image r 1) (operandAt image r 2) (held r stack store out) ≡ turned lent n (held r stack store out)
+      → performed lent (chosenOp n (opcodeAt image r)) (operandAt image r 1) (operandAt image r 2) r stack store out ≡ turned lent n (held r stack store out)
   unfolding performed
   turn-is {lent = lent} stack store out n h listed = go (eqb n 0)
     where
-      go : (spent : Bool) → performed lent (pick spent spentOp (opcodeAt image r)) (operandAt image r 1) (operandAt image r 2) (held r stack store out)
+      go : (spent : Bool) → performed lent (pick spent spentOp (opcodeAt image r)) (operandAt image r 1) (operandAt image r 2) r stack store out
           ≡ pick spent (record { stop = 30; code = 0; state = held r stack store out }) (leftBy (held r stack store out) (stepOf lent (held r stack store out)))
       go true = refl
-      go false = sym (performed-as lent _ _ _ _ (listed-not-spent listed)) ∙ step-is r stack store out h (a .anchored)
+      go false = sym (performed-as lent _ _ _ _ _ _ _ (listed-not-spent listed)) ∙ step-is r stack store out h (a .anchored)

@@ -20,7 +20,7 @@ use Rattle.control.specs.Rows.{Controls}
 use Rattle.execute.specs.declared.steps.Next.{Next}
 
 abbrev pub opcodeAt : List ℕ → Core → ℕ
-opcodeAt image r = getD image (r .start + r .pc) 0
+opcodeAt image r = getD image (r .pc) 0
 
 -- what the opcode op, listed or the spent one, asks where the registers stand, with a store of w words
 pub record Asks (image table map : List ℕ) (w op : ℕ) (r : Core) : Type 0 where

@@ -45,7 +45,7 @@ fn perform(
 ) -> Stepped
     requires { ⌜ Asks (now image) (now table) (now map) (length (now store)) op r ⌝ }
     requires { ⌜ (length (now inputs) ≡ 16) × (length (now outputs) ≡ 16) ⌝ }
-    ensures { λ q. ⌜ ((lent : Lent) → Lends (now (image .entry)) (now (table .entry)) (now (map .entry)) (now (inputs .entry)) lent → result q (now (stack .exit)) (now (store .exit)) (now (outputs .exit)) ≡ performed lent op (operandAt (now (image .entry)) r 1) (operandAt (now (image .entry)) r 2) (held r (now (stack .entry)) (now (store .entry)) (now (outputs .entry)))) × Anchored (now (table .entry)) (q .core) ⌝ }
+    ensures { λ q. ⌜ ((lent : Lent) → Lends (now (image .entry)) (now (table .entry)) (now (map .entry)) (now (inputs .entry)) lent → result q (now (stack .exit)) (now (store .exit)) (now (outputs .exit)) ≡ performed lent op (operandAt (now (image .entry)) r 1) (operandAt (now (image .entry)) r 2) r (now (stack .entry)) (now (store .entry)) (now (outputs .entry))) × Anchored (now (table .entry)) (q .core) ⌝ }
 {
     match op / 16 {
         0 => row0(op, r, stack),
@@ -89,7 +89,7 @@ pub fn turn(
     requires { ⌜ (1 ≤ getD lengths (opcodeAt (now image) r) 0) × (length (now inputs) ≡ 16) × (length (now outputs) ≡ 16) ⌝ }
     ensures { λ q. ⌜ ((lent : Lent) → Lends (now (image .entry)) (now (table .entry)) (now (map .entry)) (now (inputs .entry)) lent → result q (now (stack .exit)) (now (store .exit)) (now (outputs .exit)) ≡ turned lent left (held r (now (stack .entry)) (now (store .entry)) (now (outputs .entry)))) × Anchored (now (table .entry)) (q .core) ⌝ }
 {
-    let i = r.start + r.pc;
+    let i = r.pc;
     let op = chosen(left, image[i]);
     perform(op, r, image, table, map, stack, store, inputs, outputs)
 }

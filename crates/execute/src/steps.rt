@@ -8,7 +8,7 @@ use mcode::Position;
 use mcode::Registers;
 ghost use mathlib.Core.Path.{_≡_};
 ghost use mathlib.Core.Bool.{true};
-ghost use Prim.Native.Nat.{_≤_, _<_};
+ghost use Prim.Native.Nat.{_-_, _≤_, _<_};
 ghost use lib.ListN.{length};
 ghost use Rattle.mcode.specs.Image.{parse};
 ghost use Rattle.mcode.specs.Machine as M;
@@ -32,9 +32,10 @@ pub fn core_of(registers: Registers, table: &[u16; 193]) -> Core
     ensures { λ q. ⌜ (shown q ≡ registers) × Anchored (now (table .entry)) q ⌝ }
 {
     let k = registers.unit as usize;
-    let pc = registers.pc.0 as usize;
+    let at = registers.pc.0 as usize;
     let depth = registers.depth;
     let start = number(table, k, 1) as usize;
+    let pc = start + at;
     let unit = registers.unit as u16;
     let base = number(table, k, 4);
     let g = Address(base);
@@ -59,11 +60,11 @@ pub fn core_of(registers: Registers, table: &[u16; 193]) -> Core
 
 // The machine of these registers.
 pub fn machine_of(r: Core, stack: [u16; 16]) -> Machine
-    requires { ⌜ (r .unit < 32) × (r .pc ≤ 32767) ⌝ }
+    requires { ⌜ (r .unit < 32) × (r .start ≤ r .pc) × (r .pc - r .start ≤ 32767) ⌝ }
     ensures { λ q. ⌜ q ≡ M.machine (shown r) stack ⌝ }
 {
     let unit = r.unit as u8;
-    let place = r.pc as u16;
+    let place = (r.pc - r.start) as u16;
     let pc = Position(place);
     let l = r.l;
     let s = r.s;

@@ -1,13 +1,13 @@
--- The opcode of a row's last arm is the one that is left of the listed ones; and two facts of tests. Assumes nothing.
+-- The opcode of a row's last arm is the one that is left of the listed ones; a fact of tests; the next place. Assumes nothing.
 use mathlib.Core.Path.{_≡_, refl}
-use mathlib.Core.Bool.{Bool, true, false, not}
+use mathlib.Core.Bool.{Bool, true, false}
 use mathlib.Core.List.{List, [], _∷_}
-use Prim.Native.Nat.{ℕ, _-_, _≤_, _<_, _/_}
+use Prim.Native.Nat.{ℕ, _+_, _≤_, _<_, _/_}
 use native.Mathlib.Omega.{arith}
-use borrow.Author.Tests.{eq-eqb, ne-eqb, le-leb, eqb-true}
-use lib.Dec.{eqb, leb}
+use borrow.Author.Tests.{eq-eqb, ne-eqb, le-leb, lt-leb, le-ltb, eqb-true}
+use lib.Dec.{eqb, ltb, leb}
 use lib.ListN.{getD}
-use Rattle.mcode.specs.Word.{pick, truth, allBelow}
+use Rattle.mcode.specs.Word.{pick, and, allBelow}
 use Rattle.mcode.specs.Opcode.{lengths}
 use Rattle.mcode.proofs.Tests.{all-at}
 
@@ -25,44 +25,54 @@ unfolding among
 not-among [] op h = refl
 not-among (k ∷ ks) op h = rw (ne-eqb op k (h .1)) (not-among ks op (h .0))
 
--- an opcode of the row that is listed and none of ks is last
-unfoldable left : List ℕ → ℕ → ℕ → ℕ → Bool
-left ks row last op = pick (eqb (op / 16) row) (pick (eqb (getD lengths op 0) 0) true (pick (among ks op) true (eqb op last))) true
+-- an opcode of the row that is listed, not taken before the match and none of ks is last
+unfoldable left : (ℕ → Bool) → List ℕ → ℕ → ℕ → ℕ → Bool
+left taken ks row last op =
+    pick (eqb (op / 16) row) (pick (eqb (getD lengths op 0) 0) true (pick (taken op) true (pick (among ks op) true (eqb op last)))) true
 
-one-left : (ks : List ℕ) (row last op : ℕ) → allBelow 256 (left ks row last) ≡ true → op < 256 → op / 16 ≡ row → 1 ≤ getD lengths op 0 → None ks op → op ≡ last
+one-left : (taken : ℕ → Bool) (ks : List ℕ) (row last op : ℕ) → allBelow 256 (left taken ks row last) ≡ true → op < 256 → op / 16 ≡ row → 1 ≤ getD lengths op 0
+    → taken op ≡ false → None ks op → op ≡ last
 unfolding left
-one-left ks row last op t h e l n =
-    eqb-true op last (rw (eq-eqb (op / 16) row e, ne-eqb (getD lengths op 0) 0 (λ z. omega (arith, l, z)), not-among ks op n) at (all-at 256 (left ks row last) t op h))
+one-left taken ks row last op t h e l n m =
+    eqb-true op last
+    (rw (eq-eqb (op / 16) row e, ne-eqb (getD lengths op 0) 0 (λ z. omega (arith, l, z)), n, not-among ks op m) at (all-at 256 (left taken ks row last) t op h))
 
 pub is206 : (op : ℕ) → op < 256 → op / 16 ≡ 8 → 1 ≤ getD lengths op 0 → None (0o205 ∷ 0o200 ∷ []) op → op ≡ 0o206
 unfolding allBelow left among lengths
-is206 op = one-left (0o205 ∷ 0o200 ∷ []) 8 0o206 op refl
+is206 op h e l = one-left (λ (op : ℕ). false) (0o205 ∷ 0o200 ∷ []) 8 0o206 op refl h e l refl
 
 pub is226 : (op : ℕ) → op < 256 → op / 16 ≡ 9 → 1 ≤ getD lengths op 0 → None (0o225 ∷ 0o220 ∷ []) op → op ≡ 0o226
 unfolding allBelow left among lengths
-is226 op = one-left (0o225 ∷ 0o220 ∷ []) 9 0o226 op refl
+is226 op h e l = one-left (λ (op : ℕ). false) (0o225 ∷ 0o220 ∷ []) 9 0o226 op refl h e l refl
 
-pub is256 : (op : ℕ) → op < 256 → op / 16 ≡ 10 → 1 ≤ getD lengths op 0 → None (0o255 ∷ 0o254 ∷ 0o253 ∷ 0o252 ∷ 0o245 ∷ 0o241 ∷ 0o240 ∷ []) op → op ≡ 0o256
+pub is256 : (op : ℕ) → op < 256 → op / 16 ≡ 10 → 1 ≤ getD lengths op 0 → and (leb 0o252 op) (leb op 0o255) ≡ false → None (0o245 ∷ 0o241 ∷ 0o240 ∷ []) op → op ≡ 0o256
 unfolding allBelow left among lengths
-is256 op = one-left (0o255 ∷ 0o254 ∷ 0o253 ∷ 0o252 ∷ 0o245 ∷ 0o241 ∷ 0o240 ∷ []) 10 0o256 op refl
+is256 op = one-left (λ (op : ℕ). and (leb 0o252 op) (leb op 0o255)) (0o245 ∷ 0o241 ∷ 0o240 ∷ []) 10 0o256 op refl
 
-pub is277 : (op : ℕ) → op < 256 → op / 16 ≡ 11 → 1 ≤ getD lengths op 0 → None (0o276 ∷ 0o275 ∷ 0o274 ∷ 0o273 ∷ 0o272 ∷ 0o271 ∷ 0o270 ∷ 0o265 ∷ []) op → op ≡ 0o277
+pub is265 : (op : ℕ) → op < 256 → op / 16 ≡ 11 → 1 ≤ getD lengths op 0 → op < 0o270 → op ≡ 0o265
 unfolding allBelow left among lengths
-is277 op = one-left (0o276 ∷ 0o275 ∷ 0o274 ∷ 0o273 ∷ 0o272 ∷ 0o271 ∷ 0o270 ∷ 0o265 ∷ []) 11 0o277 op refl
+is265 op h e l n = one-left (λ (op : ℕ). leb 0o270 op) [] 11 0o265 op refl h e l (lt-leb 0o270 op n) tt
 
-pub is317 : (op : ℕ) → op < 256 → op / 16 ≡ 12 → 1 ≤ getD lengths op 0
-    → None (0o316 ∷ 0o315 ∷ 0o314 ∷ 0o313 ∷ 0o312 ∷ 0o311 ∷ 0o310 ∷ 0o306 ∷ 0o305 ∷ 0o304 ∷ []) op → op ≡ 0o317
+pub is277 : (op : ℕ) → op < 256 → op / 16 ≡ 11 → 1 ≤ getD lengths op 0 → 0o273 ≤ op → None (0o276 ∷ 0o275 ∷ 0o274 ∷ 0o273 ∷ []) op → op ≡ 0o277
 unfolding allBelow left among lengths
-is317 op = one-left (0o316 ∷ 0o315 ∷ 0o314 ∷ 0o313 ∷ 0o312 ∷ 0o311 ∷ 0o310 ∷ 0o306 ∷ 0o305 ∷ 0o304 ∷ []) 12 0o317 op refl
+is277 op h e l n = one-left (λ (op : ℕ). ltb op 0o273) (0o276 ∷ 0o275 ∷ 0o274 ∷ 0o273 ∷ []) 11 0o277 op refl h e l (le-ltb op 0o273 n)
 
-pub is336 : (op : ℕ) → op < 256 → op / 16 ≡ 13 → 1 ≤ getD lengths op 0
-    → None (0o333 ∷ 0o332 ∷ 0o331 ∷ 0o330 ∷ 0o327 ∷ 0o323 ∷ 0o322 ∷ 0o321 ∷ 0o320 ∷ []) op → op ≡ 0o336
+pub is306 : (op : ℕ) → op < 256 → op / 16 ≡ 12 → 1 ≤ getD lengths op 0 → op < 0o310 → None (0o305 ∷ 0o304 ∷ []) op → op ≡ 0o306
 unfolding allBelow left among lengths
-is336 op = one-left (0o333 ∷ 0o332 ∷ 0o331 ∷ 0o330 ∷ 0o327 ∷ 0o323 ∷ 0o322 ∷ 0o321 ∷ 0o320 ∷ []) 13 0o336 op refl
+is306 op h e l n = one-left (λ (op : ℕ). leb 0o310 op) (0o305 ∷ 0o304 ∷ []) 12 0o306 op refl h e l (lt-leb 0o310 op n)
+
+pub is317 : (op : ℕ) → op < 256 → op / 16 ≡ 12 → 1 ≤ getD lengths op 0 → 0o316 ≤ op → None (0o316 ∷ []) op → op ≡ 0o317
+unfolding allBelow left among lengths
+is317 op h e l n = one-left (λ (op : ℕ). ltb op 0o316) (0o316 ∷ []) 12 0o317 op refl h e l (le-ltb op 0o316 n)
+
+pub is336 : (op : ℕ) → op < 256 → op / 16 ≡ 13 → 1 ≤ getD lengths op 0 → 0o323 ≤ op
+    → None (0o333 ∷ 0o332 ∷ 0o331 ∷ 0o330 ∷ 0o327 ∷ 0o323 ∷ []) op → op ≡ 0o336
+unfolding allBelow left among lengths
+is336 op h e l n = one-left (λ (op : ℕ). ltb op 0o323) (0o333 ∷ 0o332 ∷ 0o331 ∷ 0o330 ∷ 0o327 ∷ 0o323 ∷ []) 13 0o336 op refl h e l (le-ltb op 0o323 n)
+
+-- the next place is in the code too
+pub next-own : {s p : ℕ} → s ≤ p → s ≤ p + 1
+next-own h = omega (arith, h)
 
 pub from-zero : (n : ℕ) → leb 0 n ≡ true
 from-zero n = le-leb 0 n (omega arith)
-
-pub truth-not : (t : Bool) → truth (not t) ≡ 1 - truth t
-truth-not true = refl
-truth-not false = refl

@@ -14,7 +14,7 @@ ghost use Prim.Native.Nat.{ℕ, _≤_, _/_};
 ghost use lib.ListN.{length, getD};
 ghost use Rattle.mcode.specs.Opcode.{lengths};
 ghost use Rattle.mcode.specs.Step.{Lent};
-ghost use Rattle.actions.specs.Core.{held, result, instruction, operandAt, Stays};
+ghost use Rattle.actions.specs.Core.{result, instruction, operandAt, Stays};
 ghost use Rattle.actions.specs.Table.{Ready};
 
 // 200 loads the word at a + b, 205 a byte, 206 the word at c + a.
@@ -22,7 +22,7 @@ pub fn row8(op: u8, r: Core, image: &[u8], stack: &mut [u16; 16], store: &[u16])
     requires { ⌜ op / 16 ≡ 8 ⌝ }
     requires { ⌜ 1 ≤ getD lengths op 0 ⌝ }
     requires { ⌜ Ready op r (length (now image)) ⌝ }
-    ensures { λ q. ⌜ ((lent : Lent) (c : ℕ) (out : List ℕ) → result q (now (stack .exit)) (now (store .entry)) out ≡ instruction lent op (operandAt (now (image .entry)) r 1) c (held r (now (stack .entry)) (now (store .entry)) out)) × Stays r (q .core) ⌝ }
+    ensures { λ q. ⌜ ((lent : Lent) (c : ℕ) (out : List ℕ) → result q (now (stack .exit)) (now (store .entry)) out ≡ instruction lent op (operandAt (now (image .entry)) r 1) c r (now (stack .entry)) (now (store .entry)) out) × Stays r (q .core) ⌝ }
 {
     match op {
         0o200 => load_top(r, stack, store, operand(r, image, 1), r.pc + 2),
@@ -36,7 +36,7 @@ pub fn row9(op: u8, r: Core, image: &[u8], stack: &mut [u16; 16], store: &mut [u
     requires { ⌜ op / 16 ≡ 9 ⌝ }
     requires { ⌜ 1 ≤ getD lengths op 0 ⌝ }
     requires { ⌜ Ready op r (length (now image)) ⌝ }
-    ensures { λ q. ⌜ ((lent : Lent) (c : ℕ) (out : List ℕ) → result q (now (stack .exit)) (now (store .exit)) out ≡ instruction lent op (operandAt (now (image .entry)) r 1) c (held r (now (stack .entry)) (now (store .entry)) out)) × Stays r (q .core) ⌝ }
+    ensures { λ q. ⌜ ((lent : Lent) (c : ℕ) (out : List ℕ) → result q (now (stack .exit)) (now (store .exit)) out ≡ instruction lent op (operandAt (now (image .entry)) r 1) c r (now (stack .entry)) (now (store .entry)) out) × Stays r (q .core) ⌝ }
 {
     match op {
         0o220 => save_below(r, stack, store, operand(r, image, 1), r.pc + 2),

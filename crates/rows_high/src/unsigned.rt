@@ -9,18 +9,16 @@ use actions::leaf::top_of;
 use words::bits::rotate;
 use words::bits::shl;
 use words::bits::shr;
-use words::unsigned::add;
 use words::unsigned::div;
-use words::unsigned::mul;
 use words::unsigned::rem;
-use words::unsigned::sub;
+use words::unsigned::sums;
 ghost use mathlib.Core.Path.{_≡_};
 ghost use mathlib.Core.List.{List};
 ghost use Prim.Native.Nat.{ℕ, _≤_, _/_};
 ghost use lib.ListN.{getD};
 ghost use Rattle.mcode.specs.Opcode.{lengths};
 ghost use Rattle.mcode.specs.Step.{Lent};
-ghost use Rattle.actions.specs.Core.{held, result, instruction, Stays};
+ghost use Rattle.actions.specs.Core.{result, instruction, Stays};
 ghost use Rattle.rows_high.specs.Rows.{Stacked};
 
 // 265 doubles a; 270 to 274 add, subtract, multiply, quotient, remainder; 275 rotates, 276 and 277 shift.
@@ -28,14 +26,21 @@ pub fn row11(op: u8, r: Core, stack: &mut [u16; 16]) -> Stepped
     requires { ⌜ op / 16 ≡ 11 ⌝ }
     requires { ⌜ 1 ≤ getD lengths op 0 ⌝ }
     requires { ⌜ Stacked op r ⌝ }
-    ensures { λ q. ⌜ ((lent : Lent) (b c : ℕ) (store out : List ℕ) → result q (now (stack .exit)) store out ≡ instruction lent op b c (held r (now (stack .entry)) store out)) × Stays r (q .core) ⌝ }
+    ensures { λ q. ⌜ ((lent : Lent) (b c : ℕ) (store out : List ℕ) → result q (now (stack .exit)) store out ≡ instruction lent op b c r (now (stack .entry)) store out) × Stays r (q .core) ⌝ }
 {
     let to = r.pc + 1;
+    if op < 0o270 {
+        return copy(r, stack, to);
+    }
+    if op < 0o273 {
+        return two(
+            r,
+            stack,
+            sums(op, second_of(r, stack), top_of(r, stack)),
+            to,
+        );
+    }
     match op {
-        0o265 => copy(r, stack, to),
-        0o270 => replace_two(r, stack, add(second_of(r, stack), top_of(r, stack)), to),
-        0o271 => replace_two(r, stack, sub(second_of(r, stack), top_of(r, stack)), to),
-        0o272 => replace_two(r, stack, mul(second_of(r, stack), top_of(r, stack)), to),
         0o273 => two(r, stack, div(second_of(r, stack), top_of(r, stack)), to),
         0o274 => two(r, stack, rem(second_of(r, stack), top_of(r, stack)), to),
         0o275 => replace_two(r, stack, rotate(second_of(r, stack), top_of(r, stack)), to),

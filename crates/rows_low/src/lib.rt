@@ -28,13 +28,13 @@ ghost use lib.ListN.{length, getD};
 ghost use Rattle.mcode.specs.Image.{basesOf};
 ghost use Rattle.mcode.specs.Opcode.{lengths};
 ghost use Rattle.mcode.specs.Step.{Lent};
-ghost use Rattle.actions.specs.Core.{held, result, instruction, operandAt, Stays};
+ghost use Rattle.actions.specs.Core.{result, instruction, operandAt, Stays};
 ghost use Rattle.actions.specs.Table.{Based, Needs, Ready};
 
 // 000 to 017 put 0 to 15.
 pub fn row0(op: u8, r: Core, stack: &mut [u16; 16]) -> Stepped
-    requires { ⌜ (op / 16 ≡ 0) × (r .depth < 16) × (r .pc ≤ 65535) ⌝ }
-    ensures { λ q. ⌜ ((lent : Lent) (b c : ℕ) (store out : List ℕ) → result q (now (stack .exit)) store out ≡ instruction lent op b c (held r (now (stack .entry)) store out)) × Stays r (q .core) ⌝ }
+    requires { ⌜ (op / 16 ≡ 0) × (r .depth < 16) × (r .start ≤ r .pc) × (r .pc ≤ 65535) ⌝ }
+    ensures { λ q. ⌜ ((lent : Lent) (b c : ℕ) (store out : List ℕ) → result q (now (stack .exit)) store out ≡ instruction lent op b c r (now (stack .entry)) store out) × Stays r (q .core) ⌝ }
 {
     put_word(r, stack, wide(op), r.pc + 1)
 }
@@ -44,7 +44,7 @@ pub fn row1(op: u8, r: Core, image: &[u8], table: &[u16; 193], stack: &mut [u16;
     requires { ⌜ op / 16 ≡ 1 ⌝ }
     requires { ⌜ Ready op r (length (now image)) ⌝ }
     requires { ⌜ (op ≡ 0o27 → operandAt (now image) r 1 < 32) ⌝ }
-    ensures { λ q. ⌜ ((lent : Lent) → Based (now (table .entry)) r (basesOf (lent .program)) → (store out : List ℕ) → result q (now (stack .exit)) store out ≡ instruction lent op (operandAt (now (image .entry)) r 1) (operandAt (now (image .entry)) r 2) (held r (now (stack .entry)) store out)) × Stays r (q .core) ⌝ }
+    ensures { λ q. ⌜ ((lent : Lent) → Based (now (table .entry)) r (basesOf (lent .program)) → (store out : List ℕ) → result q (now (stack .exit)) store out ≡ instruction lent op (operandAt (now (image .entry)) r 1) (operandAt (now (image .entry)) r 2) r (now (stack .entry)) store out) × Stays r (q .core) ⌝ }
 {
     match op {
         0o20 => put_word(r, stack, operand(r, image, 1), r.pc + 2),
@@ -83,7 +83,7 @@ pub fn row2(
     requires { ⌜ op / 16 ≡ 2 ⌝ }
     requires { ⌜ Needs 0 1 (getD lengths op 0) r (length (now image)) ⌝ }
     requires { ⌜ (op ≡ 0o42 → operandAt (now image) r 1 < 32) ⌝ }
-    ensures { λ q. ⌜ ((lent : Lent) → Based (now (table .entry)) r (basesOf (lent .program)) → (out : List ℕ) → result q (now (stack .exit)) (now (store .entry)) out ≡ instruction lent op (operandAt (now (image .entry)) r 1) (operandAt (now (image .entry)) r 2) (held r (now (stack .entry)) (now (store .entry)) out)) × Stays r (q .core) ⌝ }
+    ensures { λ q. ⌜ ((lent : Lent) → Based (now (table .entry)) r (basesOf (lent .program)) → (out : List ℕ) → result q (now (stack .exit)) (now (store .entry)) out ≡ instruction lent op (operandAt (now (image .entry)) r 1) (operandAt (now (image .entry)) r 2) r (now (stack .entry)) (now (store .entry)) out) × Stays r (q .core) ⌝ }
 {
     match op {
         0o40 => load(r, stack, store, plus(r.l, operand(r, image, 1)), r.pc + 2),
@@ -110,7 +110,7 @@ pub fn row3(
     requires { ⌜ op / 16 ≡ 3 ⌝ }
     requires { ⌜ Needs 1 0 (getD lengths op 0) r (length (now image)) ⌝ }
     requires { ⌜ (op ≡ 0o62 → operandAt (now image) r 1 < 32) ⌝ }
-    ensures { λ q. ⌜ ((lent : Lent) → Based (now (table .entry)) r (basesOf (lent .program)) → (out : List ℕ) → result q (now (stack .exit)) (now (store .exit)) out ≡ instruction lent op (operandAt (now (image .entry)) r 1) (operandAt (now (image .entry)) r 2) (held r (now (stack .entry)) (now (store .entry)) out)) × Stays r (q .core) ⌝ }
+    ensures { λ q. ⌜ ((lent : Lent) → Based (now (table .entry)) r (basesOf (lent .program)) → (out : List ℕ) → result q (now (stack .exit)) (now (store .exit)) out ≡ instruction lent op (operandAt (now (image .entry)) r 1) (operandAt (now (image .entry)) r 2) r (now (stack .entry)) (now (store .entry)) out) × Stays r (q .core) ⌝ }
 {
     match op {
         0o60 => save(r, stack, store, plus(r.l, operand(r, image, 1)), r.pc + 2),
@@ -129,7 +129,7 @@ pub fn row3(
 pub fn row4(op: u8, r: Core, image: &[u8], stack: &mut [u16; 16], store: &[u16]) -> Stepped
     requires { ⌜ op / 16 ≡ 4 ⌝ }
     requires { ⌜ Needs 0 1 (getD lengths op 0) r (length (now image)) ⌝ }
-    ensures { λ q. ⌜ ((lent : Lent) (numbers : List ℕ) → Based numbers r (basesOf (lent .program)) → (c : ℕ) (out : List ℕ) → result q (now (stack .exit)) (now (store .entry)) out ≡ instruction lent op (operandAt (now (image .entry)) r 1) c (held r (now (stack .entry)) (now (store .entry)) out)) × Stays r (q .core) ⌝ }
+    ensures { λ q. ⌜ ((lent : Lent) (numbers : List ℕ) → Based numbers r (basesOf (lent .program)) → (c : ℕ) (out : List ℕ) → result q (now (stack .exit)) (now (store .entry)) out ≡ instruction lent op (operandAt (now (image .entry)) r 1) c r (now (stack .entry)) (now (store .entry)) out) × Stays r (q .core) ⌝ }
 {
     match op {
         0o100 => load(r, stack, store, plus(r.g, operand(r, image, 1)), r.pc + 2),
@@ -141,7 +141,7 @@ pub fn row4(op: u8, r: Core, image: &[u8], stack: &mut [u16; 16], store: &[u16])
 pub fn row5(op: u8, r: Core, image: &[u8], stack: &mut [u16; 16], store: &mut [u16]) -> Stepped
     requires { ⌜ op / 16 ≡ 5 ⌝ }
     requires { ⌜ Needs 1 0 (getD lengths op 0) r (length (now image)) ⌝ }
-    ensures { λ q. ⌜ ((lent : Lent) (numbers : List ℕ) → Based numbers r (basesOf (lent .program)) → (c : ℕ) (out : List ℕ) → result q (now (stack .exit)) (now (store .exit)) out ≡ instruction lent op (operandAt (now (image .entry)) r 1) c (held r (now (stack .entry)) (now (store .entry)) out)) × Stays r (q .core) ⌝ }
+    ensures { λ q. ⌜ ((lent : Lent) (numbers : List ℕ) → Based numbers r (basesOf (lent .program)) → (c : ℕ) (out : List ℕ) → result q (now (stack .exit)) (now (store .exit)) out ≡ instruction lent op (operandAt (now (image .entry)) r 1) c r (now (stack .entry)) (now (store .entry)) out) × Stays r (q .core) ⌝ }
 {
     match op {
         0o120 => save(r, stack, store, plus(r.g, operand(r, image, 1)), r.pc + 2),
@@ -151,16 +151,16 @@ pub fn row5(op: u8, r: Core, image: &[u8], stack: &mut [u16; 16], store: &mut [u
 
 // 140 to 157 load the word at a + 0 to a + 15.
 pub fn row6(op: u8, r: Core, stack: &mut [u16; 16], store: &[u16]) -> Stepped
-    requires { ⌜ (op / 16 ≡ 6) × (0 < r .depth) × (r .depth ≤ 16) × (r .pc ≤ 65535) ⌝ }
-    ensures { λ q. ⌜ ((lent : Lent) (b c : ℕ) (out : List ℕ) → result q (now (stack .exit)) (now (store .entry)) out ≡ instruction lent op b c (held r (now (stack .entry)) (now (store .entry)) out)) × Stays r (q .core) ⌝ }
+    requires { ⌜ (op / 16 ≡ 6) × (0 < r .depth) × (r .depth ≤ 16) × (r .start ≤ r .pc) × (r .pc ≤ 65535) ⌝ }
+    ensures { λ q. ⌜ ((lent : Lent) (b c : ℕ) (out : List ℕ) → result q (now (stack .exit)) (now (store .entry)) out ≡ instruction lent op b c r (now (stack .entry)) (now (store .entry)) out) × Stays r (q .core) ⌝ }
 {
     load_top(r, stack, store, wide(op - 0o140), r.pc + 1)
 }
 
 // 160 to 177 store a at c + 0 to c + 15.
 pub fn row7(op: u8, r: Core, stack: &mut [u16; 16], store: &mut [u16]) -> Stepped
-    requires { ⌜ (op / 16 ≡ 7) × (1 < r .depth) × (r .depth ≤ 16) × (r .pc ≤ 65535) ⌝ }
-    ensures { λ q. ⌜ ((lent : Lent) (b c : ℕ) (out : List ℕ) → result q (now (stack .exit)) (now (store .exit)) out ≡ instruction lent op b c (held r (now (stack .entry)) (now (store .entry)) out)) × Stays r (q .core) ⌝ }
+    requires { ⌜ (op / 16 ≡ 7) × (1 < r .depth) × (r .depth ≤ 16) × (r .start ≤ r .pc) × (r .pc ≤ 65535) ⌝ }
+    ensures { λ q. ⌜ ((lent : Lent) (b c : ℕ) (out : List ℕ) → result q (now (stack .exit)) (now (store .exit)) out ≡ instruction lent op b c r (now (stack .entry)) (now (store .entry)) out) × Stays r (q .core) ⌝ }
 {
     save_below(r, stack, store, wide(op - 0o160), r.pc + 1)
 }

@@ -1,6 +1,9 @@
-// Shifts, the rotation, and the two bytes of a word.
+// Shifts, the rotation, or, exclusive or, and, and the two bytes of a word.
+use crate::chosen;
+use mcode::Value;
 ghost use mathlib.Core.Path.{_≡_};
-ghost use Rattle.mcode.specs.Word.{shiftLeft, shiftRight, rotateRight, byteOf, withByte};
+ghost use Prim.Native.Nat.{_≤_};
+ghost use Rattle.mcode.specs.Word.{shiftLeft, shiftRight, rotateRight, byteOf, withByte, twoOf};
 
 // 16 or more gives 0.
 pub fn shl(c: u16, a: u16) -> u16
@@ -25,6 +28,17 @@ pub fn rotate(c: u16, a: u16) -> u16
     } else {
         (c >> k) | (c << (16 - k))
     }
+}
+
+// 320 or, 321 exclusive or, 322 and.
+pub fn bitwise(op: u8, c: u16, a: u16) -> Value
+    requires { ⌜ (0o320 ≤ op) × (op ≤ 0o322) ⌝ }
+    ensures { λ v. ⌜ v ≡ twoOf op c a ⌝ }
+{
+    let x = c | a;
+    let y = c ^ a;
+    let z = c & a;
+    Value::Is(chosen(op == 0o322, z, chosen(op == 0o321, y, x)))
 }
 
 // Byte i of a string that has it in the word w: even i is the high byte.

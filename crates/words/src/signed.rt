@@ -1,11 +1,10 @@
 // Signed arithmetic: words read as i16. A result outside -32,768 to 32,767 is trap 37.
-use crate::truth;
 use mcode::Stop;
 use mcode::Value;
 ghost use mathlib.Core.Path.{_≡_};
 ghost use Prim.Native.Nat.{_<_};
 ghost use lib.IntN.{pos, _+ℤ_, _-ℤ_, _*ℤ_, negℤ, natAbs};
-ghost use lib.Signed.{quotZ, mag, ltZ, leZ};
+ghost use lib.Signed.{quotZ, mag, leZ};
 ghost use mir.Syntax.{w16};
 ghost use mir.Val.{ofZ};
 ghost use Rattle.mcode.specs.Word as W;
@@ -114,22 +113,10 @@ pub fn abs(a: u16) -> Value
     if a < 32768 { Value::Is(a) } else { neg(a) }
 }
 
-pub fn less(c: u16, a: u16) -> u16
-    ensures { λ r. ⌜ r ≡ W.truth (ltZ (W.signed c) (W.signed a)) ⌝ }
-{
-    truth(signed_of(c) < signed_of(a))
-}
-
 fn is_at_most(c: u16, a: u16) -> bool
     ensures { λ r. ⌜ r ≡ leZ (W.signed c) (W.signed a) ⌝ }
 {
     signed_of(c) <= signed_of(a)
-}
-
-pub fn at_most(c: u16, a: u16) -> u16
-    ensures { λ r. ⌜ r ≡ W.truth (leZ (W.signed c) (W.signed a)) ⌝ }
-{
-    truth(is_at_most(c, a))
 }
 
 // e stays where it is from low to high.

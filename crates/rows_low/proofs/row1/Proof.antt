@@ -123,7 +123,7 @@ forward-requires : tie.Need-forward-requires
 forward-requires c κs = search needs
 
 jump-requires : tie.Need-jump-requires
-jump-requires c κs = search needs
+jump-requires c κs = c .forward .ensures .1
 
 add-zero-forward : tie.Need-add-zero-forward
 add-zero-forward c = search needs
@@ -140,7 +140,7 @@ forward-requires-2 : tie.Need-forward-requires-2
 forward-requires-2 c κs = search needs
 
 jump-requires-2 : tie.Need-jump-requires-2
-jump-requires-2 c κs = search needs
+jump-requires-2 c κs = c .forward2 .ensures .1
 
 add-zero-back : tie.Need-add-zero-back
 add-zero-back c = search needs
@@ -157,7 +157,7 @@ back-requires : tie.Need-back-requires
 back-requires c κs = search needs
 
 jump-requires-3 : tie.Need-jump-requires-3
-jump-requires-3 c κs = search needs
+jump-requires-3 c κs = c .back .ensures .1
 
 add-or-forward : tie.Need-add-or-forward
 add-or-forward c = search needs
@@ -206,7 +206,7 @@ returns-7 c = ((λ lent h store out. rw (c .before .before .before .match .keys7
 
 returns-8 : tie.Need-returns-8
 unfolding instruction decodeOf row1 target
-returns-8 c = ((λ lent h store out. rw (c .before .before .before .match .keys8, ← c .before .before .operand-word2 .ensures, ← c .before .forward .ensures) (c .jump .ensures .0 lent _ _ store out)), c .jump .ensures .1)
+returns-8 c = ((λ lent h store out. rw (c .before .before .before .match .keys8, ← c .before .before .operand-word2 .ensures, ← c .before .forward .ensures .0) (c .jump .ensures .0 lent _ _ store out)), c .jump .ensures .1)
 
 returns-9 : tie.Need-returns-9
 unfolding instruction decodeOf row1 target
@@ -214,7 +214,7 @@ returns-9 c = ((λ lent h store out. rw (c .before .before .before .match .keys9
 
 returns-10 : tie.Need-returns-10
 unfolding instruction decodeOf row1 target
-returns-10 c = ((λ lent h store out. rw (c .before .before .before .match .keys10, ← c .before .before .operand7 .ensures .0, ← c .before .forward2 .ensures) (c .jump2 .ensures .0 lent _ _ store out)), c .jump2 .ensures .1)
+returns-10 c = ((λ lent h store out. rw (c .before .before .before .match .keys10, ← c .before .before .operand7 .ensures .0, ← c .before .forward2 .ensures .0) (c .jump2 .ensures .0 lent _ _ store out)), c .jump2 .ensures .1)
 
 returns-11 : tie.Need-returns-11
 unfolding instruction decodeOf row1 target
@@ -222,7 +222,7 @@ returns-11 c = ((λ lent h store out. rw (c .before .before .before .match .keys
 
 returns-12 : tie.Need-returns-12
 unfolding instruction decodeOf row1 target
-returns-12 c = ((λ lent h store out. rw (c .before .before .before .match .keys12, ← c .before .before .operand8 .ensures .0, ← c .before .back .ensures) (c .jump3 .ensures .0 lent _ _ store out)), c .jump3 .ensures .1)
+returns-12 c = ((λ lent h store out. rw (c .before .before .before .match .keys12, ← c .before .before .operand8 .ensures .0, ← c .before .back .ensures .0) (c .jump3 .ensures .0 lent _ _ store out)), c .jump3 .ensures .1)
 
 returns-13 : tie.Need-returns-13
 unfolding instruction decodeOf row1 target

@@ -46,7 +46,7 @@ same-length c = search needs
 
 returns : tie.Need-returns
 unfolding performOf
-returns c = ((λ lent out. rw (← c .before .before .before .before .before .before .before .before .before .before .second-of .ensures, ← c .before .before .before .before .before .before .before .before .third-of .ensures, ← c .before .before .before .before .before .before .before .wrapping-add-u16 .ensures, lt-ltb _ _ (c .before .before .before .before .before .before .if1 .taken), ← c .before .before .before .top-of .ensures, ← c .before .before .with-byte .ensures, c .take-three .ensures .0, c .take-three .ensures .1)), stays-at _ _ _ _ _ _ (c .take-three .ensures .0))
+returns c = ((λ lent out. rw (← c .before .before .before .before .before .before .before .before .before .before .second-of .ensures, ← c .before .before .before .before .before .before .before .before .third-of .ensures, ← c .before .before .before .before .before .before .before .wrapping-add-u16 .ensures, lt-ltb _ _ (c .before .before .before .before .before .before .if1 .taken), ← c .before .before .before .top-of .ensures, ← c .before .before .with-byte .ensures, c .take-three .ensures .0, c .take-three .ensures .1)), stays-at _ _ _ _ _ _ (c .before .before .before .before .before .before .before .before .before .before .before .before .before .pre .2) (c .take-three .ensures .0))
 
 returns-2 : tie.Need-returns-2
 unfolding performOf

@@ -47,7 +47,7 @@ same-length c = search needs
 
 returns-2 : tie.Need-returns-2
 unfolding performOf
-returns-2 c = ((λ lent h out. rw (h, ← c .before .before .before .before .before .before .before .top-of .ensures, ← c .before .before .before .before .before .second-of .ensures, le-ltb _ _ (c .before .before .before .before .if1 .left), lt-ltb _ _ (c .before .before .before .if2 .taken), c .take-two .ensures .0, c .take-two .ensures .1)), stays-at _ _ _ _ _ _ (c .take-two .ensures .0))
+returns-2 c = ((λ lent h out. rw (h, ← c .before .before .before .before .before .before .before .top-of .ensures, ← c .before .before .before .before .before .second-of .ensures, le-ltb _ _ (c .before .before .before .before .if1 .left), lt-ltb _ _ (c .before .before .before .if2 .taken), c .take-two .ensures .0, c .take-two .ensures .1)), stays-at _ _ _ _ _ _ (c .before .before .before .before .before .before .before .before .before .before .before .pre .3) (c .take-two .ensures .0))
 
 returns-3 : tie.Need-returns-3
 unfolding performOf

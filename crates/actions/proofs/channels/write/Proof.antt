@@ -35,7 +35,7 @@ same-length c = search needs
 
 returns-2 : tie.Need-returns-2
 unfolding performOf
-returns-2 c = ((λ lent store. rw (← c .before .before .before .before .before .second-of .ensures, ← c .before .before .top-of .ensures, le-ltb _ _ (c .before .before .before .before .if1 .left), c .take-two .ensures .0, c .take-two .ensures .1)), stays-at _ _ _ _ _ _ (c .take-two .ensures .0))
+returns-2 c = ((λ lent store. rw (← c .before .before .before .before .before .second-of .ensures, ← c .before .before .top-of .ensures, le-ltb _ _ (c .before .before .before .before .if1 .left), c .take-two .ensures .0, c .take-two .ensures .1)), stays-at _ _ _ _ _ _ (c .before .before .before .before .before .before .before .before .pre .3) (c .take-two .ensures .0))
 
 pub write-spec : {M : Type 1} → statement M
 write-spec =

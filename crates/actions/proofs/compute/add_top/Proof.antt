@@ -15,7 +15,7 @@ replace-one-requires c κs = search needs
 
 returns : tie.Need-returns
 unfolding performOf
-returns c = ((λ lent store out. rw (c .replace-one .ensures .0, c .replace-one .ensures .1, c .before .wrapping-add-u16 .ensures, c .before .before .top-of .ensures)), stays-at _ _ _ _ _ _ (c .replace-one .ensures .0))
+returns c = ((λ lent store out. rw (c .replace-one .ensures .0, c .replace-one .ensures .1, c .before .wrapping-add-u16 .ensures, c .before .before .top-of .ensures)), stays-at _ _ _ _ _ _ (c .before .before .before .before .before .pre .2) (c .replace-one .ensures .0))
 
 pub add-top-spec : {M : Type 1} → statement M
 add-top-spec =

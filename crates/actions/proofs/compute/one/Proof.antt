@@ -16,7 +16,7 @@ faulted-requires : tie.Need-faulted-requires
 faulted-requires c κs = search needs
 
 returns : tie.Need-returns
-returns c = ((λ store out. rw (c .before .before .before .v .given .1, c .replace-one .ensures .0, c .replace-one .ensures .1)), stays-at _ _ _ _ _ _ (c .replace-one .ensures .0))
+returns c = ((λ store out. rw (c .before .before .before .v .given .1, c .replace-one .ensures .0, c .replace-one .ensures .1)), stays-at _ _ _ _ _ _ (c .before .before .before .before .before .pre .2) (c .replace-one .ensures .0))
 
 returns-2 : tie.Need-returns-2
 returns-2 c = ((λ store out. rw (c .before .before .v2 .given .1, c .faulted .ensures)), stays-as _ _ _ _ (c .faulted .ensures))

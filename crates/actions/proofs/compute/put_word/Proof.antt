@@ -18,7 +18,7 @@ gone-requires c κs = search needs
 
 returns : tie.Need-returns
 unfolding performOf
-returns c = ((λ lent store out. rw (c .gone .ensures)), stays-at _ _ _ _ _ _ (c .gone .ensures))
+returns c = ((λ lent store out. rw (c .gone .ensures)), stays-at _ _ _ _ _ _ (c .before .pre .1) (c .gone .ensures))
 
 pub put-word-spec : {M : Type 1} → statement M
 put-word-spec = tie.close (tie.spec mul-stack element-write-stack add-gone gone-requires returns)

@@ -28,7 +28,7 @@ gone-requires : tie.Need-gone-requires
 gone-requires c κs = search needs
 
 returns : tie.Need-returns
-returns c = ((λ store out. rw (c .gone .ensures)), stays-at _ _ _ _ _ _ (c .gone .ensures))
+returns c = ((λ store out. rw (c .gone .ensures)), stays-at _ _ _ _ _ _ (c .before .pre .2) (c .gone .ensures))
 
 pub replace-two-spec : {M : Type 1} → statement M
 replace-two-spec =

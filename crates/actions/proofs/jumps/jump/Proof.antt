@@ -9,7 +9,7 @@ gone-requires c κs = search needs
 
 returns : tie.Need-returns
 unfolding performOf
-returns c = ((λ lent to stack store out. rw (c .gone .ensures)), stays-at _ _ _ _ _ _ (c .gone .ensures))
+returns c = ((λ lent to stack store out. rw (c .gone .ensures)), stays-at _ _ _ _ _ _ (c .before .pre) (c .gone .ensures))
 
 pub jump-spec : {M : Type 1} → statement M
 jump-spec = tie.close (tie.spec gone-requires returns)

@@ -22,11 +22,11 @@ take-word-requires-2 c κs = search needs
 
 returns : tie.Need-returns
 unfolding performOf
-returns c = ((λ lent store out. rw (← c .before .before .before .before .before .top-of .ensures, eq-eqb _ _ (c .before .before .before .before .if1 .taken), c .take-word .ensures .0, c .take-word .ensures .1, c .before .forward .ensures, c .before .before .operand-word .ensures)), stays-at _ _ _ _ _ _ (c .take-word .ensures .0))
+returns c = ((λ lent store out. rw (← c .before .before .before .before .before .top-of .ensures, eq-eqb _ _ (c .before .before .before .before .if1 .taken), c .take-word .ensures .0, c .take-word .ensures .1, c .before .forward .ensures .0, c .before .before .operand-word .ensures)), stays-at _ _ _ _ _ _ (c .before .forward .ensures .1) (c .take-word .ensures .0))
 
 returns-2 : tie.Need-returns-2
 unfolding performOf
-returns-2 c = ((λ lent store out. rw (← c .before .before .before .top-of .ensures, ne-eqb _ _ (c .before .before .if1 .left), c .take-word2 .ensures .0, c .take-word2 .ensures .1)), stays-at _ _ _ _ _ _ (c .take-word2 .ensures .0))
+returns-2 c = ((λ lent store out. rw (← c .before .before .before .top-of .ensures, ne-eqb _ _ (c .before .before .if1 .left), c .take-word2 .ensures .0, c .take-word2 .ensures .1)), stays-at _ _ _ _ _ _ (c .before .before .before .before .before .before .pre .5) (c .take-word2 .ensures .0))
 
 pub zero-word-spec : {M : Type 1} → statement M
 zero-word-spec =

@@ -28,7 +28,7 @@ trapped-requires c κs = search needs
 
 returns : tie.Need-returns
 unfolding performOf
-returns c = ((λ lent out. rw (← c .before .before .before .before .before .top-of .ensures, ← c .before .before .before .before .wrapping-add-u16 .ensures, lt-ltb _ _ (c .before .before .before .if1 .taken), c .replace-one .ensures .0, c .replace-one .ensures .1)), stays-at _ _ _ _ _ _ (c .replace-one .ensures .0))
+returns c = ((λ lent out. rw (← c .before .before .before .before .before .top-of .ensures, ← c .before .before .before .before .wrapping-add-u16 .ensures, lt-ltb _ _ (c .before .before .before .if1 .taken), c .replace-one .ensures .0, c .replace-one .ensures .1)), stays-at _ _ _ _ _ _ (c .before .before .before .before .before .before .before .before .pre .2) (c .replace-one .ensures .0))
 
 returns-2 : tie.Need-returns-2
 unfolding performOf

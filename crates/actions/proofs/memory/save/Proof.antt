@@ -28,7 +28,7 @@ same-length c = search needs
 
 returns : tie.Need-returns
 unfolding performOf
-returns c = ((λ lent out. rw (lt-ltb _ _ (c .before .before .before .before .if1 .taken), c .take-word .ensures .0, c .take-word .ensures .1, c .before .before .top-of .ensures)), stays-at _ _ _ _ _ _ (c .take-word .ensures .0))
+returns c = ((λ lent out. rw (lt-ltb _ _ (c .before .before .before .before .if1 .taken), c .take-word .ensures .0, c .take-word .ensures .1, c .before .before .top-of .ensures)), stays-at _ _ _ _ _ _ (c .before .before .before .before .before .before .before .pre .2) (c .take-word .ensures .0))
 
 returns-2 : tie.Need-returns-2
 unfolding performOf

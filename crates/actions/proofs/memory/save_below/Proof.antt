@@ -34,7 +34,7 @@ same-length c = search needs
 
 returns : tie.Need-returns
 unfolding performOf
-returns c = ((λ lent out. rw (← c .before .before .before .before .before .before .second-of .ensures, ← c .before .before .top-of .ensures, ← c .before .before .before .before .before .wrapping-add-u16 .ensures, lt-ltb _ _ (c .before .before .before .before .if1 .taken), c .take-two .ensures .0, c .take-two .ensures .1)), stays-at _ _ _ _ _ _ (c .take-two .ensures .0))
+returns c = ((λ lent out. rw (← c .before .before .before .before .before .before .second-of .ensures, ← c .before .before .top-of .ensures, ← c .before .before .before .before .before .wrapping-add-u16 .ensures, lt-ltb _ _ (c .before .before .before .before .if1 .taken), c .take-two .ensures .0, c .take-two .ensures .1)), stays-at _ _ _ _ _ _ (c .before .before .before .before .before .before .before .before .before .pre .2) (c .take-two .ensures .0))
 
 returns-2 : tie.Need-returns-2
 unfolding performOf

@@ -1,5 +1,5 @@
 use Rattle.mcode.specs.Step.{performOf, call}
-use Rattle.control.proofs.Laws.{based, anchored-in, anchored-as}
+use Rattle.control.proofs.Laws.{based, anchored-in, anchored-as, from-start}
 use native.Mathlib.Omega.{arith}
 use borrow.Author.Tests.{lt-ltb, le-ltb}
 use borrow.Author.Needs.{needs}
@@ -25,9 +25,6 @@ returns c = ((λ lent marks words h stack out. rw (lt-ltb _ _ (c .before .if1 .t
 entry-of-requires : tie.Need-entry-of-requires
 entry-of-requires c κs = search needs
 
-cast-entry : tie.Need-cast-entry
-cast-entry c = search needs
-
 write-external-requires : tie.Need-write-external-requires
 write-external-requires c κs = search needs
 
@@ -43,7 +40,7 @@ same-length c = search needs
 returns-2 : tie.Need-returns-2
 unfolding performOf call
 returns-2 c = (
-  (λ lent marks words h stack out. rw (le-ltb _ _ (c .before .before .before .before .before .before .if1 .left), h .image, h .tabled .modules (c .before .before .before .before .before .before .before .before .before .before .before .args .k) (omega (arith, c .before .before .before .before .before .before .before .before .before .before .before .pre .0 .few, c .before .before .before .before .before .before .before .before .before .before .before .pre .1 .1 .1 .0)), based (h .tabled) (c .before .before .before .before .before .before .before .before .before .before .before .pre .1 .1 .0) .own, ← c .before .before .before .before .before .entry-of .ensures, c .in-module .ensures, c .before .before .before .write-external .ensures)),
+  (λ lent marks words h stack out. rw (le-ltb _ _ (c .before .before .before .before .before .before .if1 .left), h .image, h .tabled .modules (c .before .before .before .before .before .before .before .before .before .before .before .args .k) (omega (arith, c .before .before .before .before .before .before .before .before .before .before .before .pre .0 .few, c .before .before .before .before .before .before .before .before .before .before .before .pre .1 .1 .1 .0)), based (h .tabled) (c .before .before .before .before .before .before .before .before .before .before .before .pre .1 .1 .0) .own, ← c .before .before .before .before .before .entry-of .ensures, c .in-module .ensures, c .before .before .before .write-external .ensures, from-start)),
   anchored-in _ (c .before .before .before .before .before .before .before .before .before .before .before .args .k) _ _ _ (c .before .before .before .before .before .before .before .before .before .before .before .args .r) _ (omega (arith, c .before .before .before .before .before .before .before .before .before .before .before .pre .0 .few, c .before .before .before .before .before .before .before .before .before .before .before .pre .1 .1 .1 .0)) (c .in-module .ensures),
 )
 
@@ -57,7 +54,6 @@ call-external-spec =
     trapped-requires
     returns
     entry-of-requires
-    cast-entry
     write-external-requires
     add-in-module
     in-module-requires

@@ -1,8 +1,9 @@
 use mathlib.Core.Path.{sym, _∙_}
 use Rattle.mcode.specs.Step.{backTo}
 use Rattle.actions.proofs.Laws.{stays-as}
-use Rattle.control.proofs.Laws.{stays-framed}
+use Rattle.control.proofs.Laws.{stays-framed, from-start, after-start}
 use Rattle.control.proofs.Find.{standing-in}
+use native.Mathlib.Omega.{arith}
 use borrow.Author.Needs.{needs}
 use Rattle.control.proofs.frames.back_here.Statement.{statement}
 use Rattle.control.proofs.frames.back_here.Tie as tie
@@ -19,6 +20,9 @@ cast-i c = search needs
 add-i : tie.Need-add-i
 add-i c = search needs
 
+add-framed : tie.Need-add-framed
+add-framed c = omega (arith, c .before .before .before .before .before .before .pre .1 .1 .2, c .before .before .before .before .before .before .fits .at)
+
 mul-framed : tie.Need-mul-framed
 mul-framed c = search needs
 
@@ -30,7 +34,7 @@ framed-requires c κs = search needs
 
 returns : tie.Need-returns
 unfolding backTo
-returns c = ((λ lent bytes words h stack out. rw (standing-in h _ _ _, sym (c .before .before .before .stands .ensures) ∙ c .before .before .if1 .taken, c .framed .ensures)), stays-framed _ _ _ _ (c .before .before .before .before .before .before .before .args .r) _ (c .framed .ensures))
+returns c = ((λ lent bytes words h stack out. rw (standing-in h _ _ _, sym (c .before .before .before .before .stands .ensures) ∙ c .before .before .before .if1 .taken, c .framed .ensures, from-start)), stays-framed _ _ _ _ (c .before .before .before .before .before .before .before .before .args .r) _ (after-start _ _) (c .framed .ensures))
 
 trapped-requires : tie.Need-trapped-requires
 trapped-requires c κs = search needs
@@ -47,6 +51,7 @@ back-here-spec =
     stands-requires
     cast-i
     add-i
+    add-framed
     mul-framed
     shared-slice-read-framed
     framed-requires

@@ -1,6 +1,6 @@
 use mathlib.Core.Path.{sym, _∙_}
 use Rattle.mcode.specs.Step.{backTo}
-use Rattle.control.proofs.Laws.{anchored-in, anchored-as}
+use Rattle.control.proofs.Laws.{anchored-in, anchored-as, from-start}
 use Rattle.control.proofs.Find.{find-stands, find, stands-few}
 use borrow.Author.Needs.{needs}
 use Rattle.control.proofs.frames.back_there.Statement.{statement}
@@ -38,7 +38,7 @@ unfolding backTo
 returns c =
     let e = sym (c .before .before .before .stands .ensures) ∙ c .before .before .if1 .taken in
     let f = rw (c .before .before .before .before .find-base .ensures) at e in
-    ((λ lent bytes words h stack out. rw (find-stands h _ _ _ ∙ f, find h _ _ _ f, ← c .before .before .before .before .find-base .ensures, c .in-module .ensures)), anchored-in _ (c .before .before .before .before .find-base .result) _ _ _ (c .before .before .before .before .before .before .before .before .args .r) _ (stands-few _ _ _ _ _ (c .before .before .before .before .before .before .before .before .pre .0) e) (c .in-module .ensures))
+    ((λ lent bytes words h stack out. rw (find-stands h _ _ _ ∙ f, find h _ _ _ f, ← c .before .before .before .before .find-base .ensures, c .in-module .ensures, from-start)), anchored-in _ (c .before .before .before .before .find-base .result) _ _ _ (c .before .before .before .before .before .before .before .before .args .r) _ (stands-few _ _ _ _ _ (c .before .before .before .before .before .before .before .before .pre .0) e) (c .in-module .ensures))
 
 trapped-requires : tie.Need-trapped-requires
 trapped-requires c κs = search needs

@@ -30,7 +30,7 @@ framed-requires c κs = search needs
 
 returns-2 : tie.Need-returns-2
 unfolding performOf
-returns-2 c = ((λ lent stack store out. rw (le-ltb _ _ (c .before .if1 .left), c .framed .ensures)), stays-framed _ _ _ _ (c .before .before .before .before .args .r) _ (c .framed .ensures))
+returns-2 c = ((λ lent stack store out. rw (le-ltb _ _ (c .before .if1 .left), c .framed .ensures)), stays-framed _ _ _ _ (c .before .before .before .before .args .r) _ (c .before .before .before .before .pre) (c .framed .ensures))
 
 pub enter-spec : {M : Type 1} → statement M
 enter-spec =

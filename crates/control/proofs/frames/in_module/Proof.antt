@@ -1,3 +1,4 @@
+use native.Mathlib.Omega.{arith}
 use borrow.Author.Needs.{needs}
 use Rattle.control.proofs.frames.in_module.Statement.{statement}
 use Rattle.control.proofs.frames.in_module.Tie as tie
@@ -11,6 +12,9 @@ cast-start c = search needs
 number-requires-2 : tie.Need-number-requires-2
 number-requires-2 c κs = search needs
 
+add-settled : tie.Need-add-settled
+add-settled c = omega (arith, c .before .number .ok, c .before .before .fits .at)
+
 cast-settled : tie.Need-cast-settled
 cast-settled c = search needs
 
@@ -23,4 +27,11 @@ returns c = rw (← c .before .before .number .ensures, ← c .before .number2 .
 pub in-module-spec : {M : Type 1} → statement M
 in-module-spec =
     tie.close
-    (tie.spec number-requires cast-start number-requires-2 cast-settled settled-requires returns)
+    (tie.spec
+    number-requires
+    cast-start
+    number-requires-2
+    add-settled
+    cast-settled
+    settled-requires
+    returns)

@@ -10,7 +10,7 @@ trapped-requires c κs = search needs
 
 returns : tie.Need-returns
 unfolding performOf returned
-returns c = ((λ lent bytes words h to stack out. rw (lt-ltb _ _ (c .before .if1 .taken), c .trapped .ensures)), anchored-as _ _ _ _ (c .before .before .before .before .before .pre .1 .1) (c .trapped .ensures))
+returns c = ((λ lent bytes words h to stack out. rw (lt-ltb _ _ (c .before .if1 .taken), c .trapped .ensures)), anchored-as _ _ _ _ (c .before .before .before .before .before .pre .1 .1 .0) (c .trapped .ensures))
 
 cast-i : tie.Need-cast-i
 cast-i c = search needs
@@ -29,14 +29,14 @@ trapped-requires-2 c κs = search needs
 
 returns-2 : tie.Need-returns-2
 unfolding performOf returned
-returns-2 c = ((λ lent bytes words h to stack out. rw (le-ltb _ _ (c .before .before .before .before .if1 .left), eq-eqb _ _ (c .before .if2 .taken), c .trapped2 .ensures)), anchored-as _ _ _ _ (c .before .before .before .before .before .before .before .before .pre .1 .1) (c .trapped2 .ensures))
+returns-2 c = ((λ lent bytes words h to stack out. rw (le-ltb _ _ (c .before .before .before .before .if1 .left), eq-eqb _ _ (c .before .if2 .taken), c .trapped2 .ensures)), anchored-as _ _ _ _ (c .before .before .before .before .before .before .before .before .pre .1 .1 .0) (c .trapped2 .ensures))
 
 back-here-requires : tie.Need-back-here-requires
 back-here-requires c κs = search needs
 
 returns-3 : tie.Need-returns-3
 unfolding performOf returned
-returns-3 c = ((λ lent bytes words h to stack out. rw (le-ltb _ _ (c .before .before .before .before .before .if1 .left), ne-eqb _ _ (c .before .before .if2 .left), lt-ltb _ _ (c .before .if3 .taken)) (c .back-here .ensures .0 lent bytes words h stack out)), anchored-on (c .before .before .before .before .before .before .before .before .before .pre .1 .1) (c .back-here .ensures .1))
+returns-3 c = ((λ lent bytes words h to stack out. rw (le-ltb _ _ (c .before .before .before .before .before .if1 .left), ne-eqb _ _ (c .before .before .if2 .left), lt-ltb _ _ (c .before .if3 .taken)) (c .back-here .ensures .0 lent bytes words h stack out)), anchored-on (c .before .before .before .before .before .before .before .before .before .pre .1 .1 .0) (c .back-here .ensures .1))
 
 back-there-requires : tie.Need-back-there-requires
 back-there-requires c κs = search needs

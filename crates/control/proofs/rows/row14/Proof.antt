@@ -40,10 +40,10 @@ add-enter : tie.Need-add-enter
 add-enter c = let k = c .before .before .before .before .before .before .pre .1 .0 (λ e. omega (arith, c .before .before .match .keys4, e)) in omega (arith, k .0 .ready .near)
 
 enter-requires : tie.Need-enter-requires
-enter-requires c κs = search needs
+enter-requires c κs = omega (arith, c .before .before .before .before .before .before .pre .1 .1 .own)
 
 return-from-requires : tie.Need-return-from-requires
-return-from-requires c κs = let k = c .before .before .before .before .before .pre .1 .0 (λ e. omega (arith, c .before .match .keys5, e)) in (k .1, (k .0 .framed, c .before .before .before .before .before .pre .1 .1))
+return-from-requires c κs = let k = c .before .before .before .before .before .pre .1 .0 (λ e. omega (arith, c .before .match .keys5, e)) in (k .1, (k .0 .framed, (c .before .before .before .before .before .pre .1 .1, omega (arith, k .0 .ready .own, k .0 .ready .near))))
 
 operand-requires-3 : tie.Need-operand-requires-3
 unfolding takens lefts lengths
@@ -61,7 +61,7 @@ unfolding takens lefts lengths
 call-external-requires c κs =
     let k = c .before .before .before .before .before .before .before .before .pre .1 .0 (λ e. omega (arith, c .before .before .before .before .match .keys6, e)) in
     let f = k .0 .far (c .before .before .before .before .match .keys6) in
-    (k .0 .entered, (k .0 .framed, (c .before .before .before .before .before .before .before .before .pre .1 .1, rw (c .before .before .operand3 .ensures .0, c .before .operand4 .ensures .0) (f .0, f .1, omega (arith, rw (c .before .before .before .before .match .keys6) at (k .0 .inside))))))
+    (k .0 .entered, (k .0 .framed, (c .before .before .before .before .before .before .before .before .pre .1 .1, rw (c .before .before .operand3 .ensures .0, c .before .operand4 .ensures .0) (f .0, f .1, omega (arith, k .0 .ready .own), omega (arith, rw (c .before .before .before .before .match .keys6) at (k .0 .inside), k .0 .ready .own)))))
 
 operand-requires-5 : tie.Need-operand-requires-5
 unfolding takens lefts lengths
@@ -74,10 +74,10 @@ call-linked-requires : tie.Need-call-linked-requires
 unfolding takens lefts lengths
 call-linked-requires c κs =
     let k = c .before .before .before .before .before .before .before .before .pre .1 .0 (λ e. omega (arith, c .before .before .before .before .match .keys7, e)) in
-    (k .0 .entered, (k .0 .framed, rw (c .before .operand5 .ensures .0) (k .0 .near (inl (c .before .before .before .before .match .keys7)), omega (arith, k .0 .inside), omega (arith, rw (c .before .before .before .before .match .keys7) at (k .0 .ready)))))
+    (k .0 .entered, (k .0 .framed, rw (c .before .operand5 .ensures .0) (k .0 .near (inl (c .before .before .before .before .match .keys7)), omega (arith, k .0 .ready .own, k .0 .ready .near), omega (arith, k .0 .ready .own), omega (arith, k .0 .inside, k .0 .ready .own), omega (arith, rw (c .before .before .before .before .match .keys7) at (k .0 .ready)))))
 
 nothing-requires : tie.Need-nothing-requires
-nothing-requires c κs = search needs
+nothing-requires c κs = c .before .before .before .before .pre .1 .1 .own
 
 returns : tie.Need-returns
 unfolding performed instruction decodeOf row14

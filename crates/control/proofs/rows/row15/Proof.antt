@@ -15,7 +15,7 @@ after-call-requires : tie.Need-after-call-requires
 after-call-requires c κs = c .before .before .before .before .pre .1 .0 .ready .near
 
 call-requires : tie.Need-call-requires
-call-requires c κs = (c .before .before .before .before .before .pre .1 .0 .entered, (c .before .before .before .before .before .pre .1 .0 .framed, (rw (c .before .before .callee .ensures) (callee-exists (c .before .before .before .before .before .pre .1 .0) (c .before .before .before .before .before .pre .0)), omega (arith, c .after-call .ensures .1, c .before .before .before .before .before .pre .1 .0 .inside))))
+call-requires c κs = (c .before .before .before .before .before .pre .1 .0 .entered, (c .before .before .before .before .before .pre .1 .0 .framed, (rw (c .before .before .callee .ensures) (callee-exists (c .before .before .before .before .before .pre .1 .0) (c .before .before .before .before .before .pre .0)), omega (arith, c .before .before .before .before .before .pre .1 .0 .ready .own, c .before .before .before .before .before .pre .1 .0 .ready .near), omega (arith, c .after-call .ensures .1, c .before .before .before .before .before .pre .1 .0 .ready .own), omega (arith, c .after-call .ensures .2, c .before .before .before .before .before .pre .1 .0 .inside, c .before .before .before .before .before .pre .1 .0 .ready .own))))
 
 same-length : tie.Need-same-length
 same-length c = search needs

@@ -11,8 +11,8 @@ add-word-at c = search needs
 word-at-requires : tie.Need-word-at-requires
 word-at-requires c κs = let z = sizes _ _ _ (c .before .pre .1) in omega (arith, z .whole)
 
-cast-pc : tie.Need-cast-pc
-cast-pc c = search needs
+cast-at : tie.Need-cast-at
+cast-at c = search needs
 
 add-word-at-2 : tie.Need-add-word-at-2
 add-word-at-2 c = search needs
@@ -38,6 +38,9 @@ number-requires c κs = search needs
 cast-start : tie.Need-cast-start
 cast-start c = search needs
 
+add-pc : tie.Need-add-pc
+add-pc c = omega (arith, c .number .ok, c .before .before .before .word-at .ok)
+
 cast-unit : tie.Need-cast-unit
 cast-unit c = search needs
 
@@ -50,11 +53,11 @@ add-word-at-3 c = search needs
 word-at-requires-4 : tie.Need-word-at-requires-4
 word-at-requires-4 c κs = let z = sizes _ _ _ (c .before .before .before .before .before .before .pre .1) in omega (arith, z .whole)
 
-sub-t24 : tie.Need-sub-t24
-sub-t24 c = let z = sizes _ _ _ (c .before .before .before .before .before .before .before .pre .1) in omega (arith, z .some, c .before .before .before .before .word-at2 .ensures)
+sub-t25 : tie.Need-sub-t25
+sub-t25 c = let z = sizes _ _ _ (c .before .before .before .before .before .before .before .pre .1) in omega (arith, z .some, c .before .before .before .before .word-at2 .ensures)
 
-sub-t27 : tie.Need-sub-t27
-sub-t27 c = let z = sizes _ _ _ (c .before .before .before .before .before .before .before .pre .1) in omega (arith, rw (← c .before .before .before .before .word-at2 .ensures, ← c .before .before .before .word-at3 .ensures) at (z .below))
+sub-t28 : tie.Need-sub-t28
+sub-t28 c = let z = sizes _ _ _ (c .before .before .before .before .before .before .before .pre .1) in omega (arith, rw (← c .before .before .before .before .word-at2 .ensures, ← c .before .before .before .word-at3 .ensures) at (z .below))
 
 add-word-at-4 : tie.Need-add-word-at-4
 add-word-at-4 c = search needs
@@ -65,11 +68,11 @@ word-at-requires-5 c κs = let z = sizes _ _ _ (c .before .before .before .befor
 cast-limit : tie.Need-cast-limit
 cast-limit c = search needs
 
-sub-t25 : tie.Need-sub-t25
-sub-t25 c = let z = sizes _ _ _ (c .before .before .before .before .before .before .before .before .pre .1) in omega (arith, z .margin, c .word-at5 .ensures)
+sub-t26 : tie.Need-sub-t26
+sub-t26 c = let z = sizes _ _ _ (c .before .before .before .before .before .before .before .before .pre .1) in omega (arith, z .margin, c .word-at5 .ensures)
 
-cast-t27 : tie.Need-cast-t27
-cast-t27 c = search needs
+cast-t28 : tie.Need-cast-t28
+cast-t28 c = search needs
 
 add-word-at-5 : tie.Need-add-word-at-5
 add-word-at-5 c = search needs
@@ -89,7 +92,7 @@ resume-spec =
     (tie.spec
     add-word-at
     word-at-requires
-    cast-pc
+    cast-at
     add-word-at-2
     word-at-requires-2
     cast-word-at
@@ -98,17 +101,18 @@ resume-spec =
     cast-depth
     number-requires
     cast-start
+    add-pc
     cast-unit
     number-requires-2
     add-word-at-3
     word-at-requires-4
-    sub-t24
-    sub-t27
+    sub-t25
+    sub-t28
     add-word-at-4
     word-at-requires-5
     cast-limit
-    sub-t25
-    cast-t27
+    sub-t26
+    cast-t28
     add-word-at-5
     word-at-requires-6
     mask-of-requires

@@ -29,8 +29,11 @@ cast-p c = search needs
 cast-h : tie.Need-cast-h
 cast-h c = search needs
 
+sub-write-record : tie.Need-sub-write-record
+sub-write-record c = omega (arith, c .before .before .before .before .before .before .before .before .before .before .pre .1)
+
 cast-write-record : tie.Need-cast-write-record
-cast-write-record c = search needs
+cast-write-record c = omega (arith, c .before .before .before .before .before .before .before .before .before .before .pre .1)
 
 add-write-record : tie.Need-add-write-record
 add-write-record c = search needs
@@ -48,20 +51,20 @@ cast-write-record-3 : tie.Need-cast-write-record-3
 cast-write-record-3 c = search needs
 
 write-record-requires : tie.Need-write-record-requires
-write-record-requires c κs = simp length-set (omega (arith, c .before .before .before .before .before .save-words .kept, c .before .before .before .before .before .before .before .before .before .pre))
+write-record-requires c κs = simp length-set (omega (arith, c .before .before .before .before .before .before .save-words .kept, c .before .before .before .before .before .before .before .before .before .before .pre))
 
 mul-store-2 : tie.Need-mul-store-2
 mul-store-2 c = search needs
 
 slice-write-store-2 : tie.Need-slice-write-store-2
-slice-write-store-2 c = omega (arith, simp length-set at (c .before .before .write-record .kept .0), c .before .before .before .before .before .before .before .before .save-words .kept, c .before .before .before .before .before .before .before .before .before .before .before .before .pre)
+slice-write-store-2 c = omega (arith, simp length-set at (c .before .before .write-record .kept .0), c .before .before .before .before .before .before .before .before .before .save-words .kept, c .before .before .before .before .before .before .before .before .before .before .before .before .before .pre)
 
 same-length : tie.Need-same-length
-same-length c = simp length-set (omega (arith, simp length-set at (c .before .before .write-record .kept .0), c .before .before .before .before .before .before .before .before .save-words .kept))
+same-length c = simp length-set (omega (arith, simp length-set at (c .before .before .write-record .kept .0), c .before .before .before .before .before .before .before .before .before .save-words .kept))
 
 returns : tie.Need-returns
 unfolding savedStore
-returns c = rw (← c .before .before .before .before .before .before .before .before .save-words .ensures, ← c .before .before .write-record .ensures)
+returns c = rw (← c .before .before .before .before .before .before .before .before .before .save-words .ensures, ← c .before .before .write-record .ensures)
 
 pub save-process-spec : {M : Type 1} → statement M
 save-process-spec =
@@ -75,6 +78,7 @@ save-process-spec =
     slice-write-store
     cast-p
     cast-h
+    sub-write-record
     cast-write-record
     add-write-record
     add-write-record-2

@@ -86,7 +86,7 @@ exchange-requires c κs =
     let few = rw (← c .before .before .before .before .before .before .before .before .before .before .before .before .before .word-at .ensures, ← c .before .before .before .before .before .before .before .before .before .before .before .word-at2 .ensures) at (z .few) in
     let below = rw (← c .before .before .before .before .before .before .before .before .before .before .before .before .before .word-at .ensures, ← c .before .before .before .before .before .before .before .before .before .before .before .word-at2 .ensures) at (z .below) in
     let f = c .before .before .before .before .before .before .before .before .before .before .before .before .before .before .before .before .before .before .before .before .pre .1 .0 in
-    ((few, omega (arith, below, z .inside, c .before .before .before .before .before .before .before .before .before .before .before .before .before .word-at .ensures)), ((f .low, f .high, f .proc, f .short), (omega (arith, f .most), c .before .before .before .before .before .before .before .before .before .before .before .before .before .before .before .before .before .before .before .before .pre .1 .1 .1 .1, c .before .before .before .before .before .before .before .before .before .before .before .before .before .before .before .before .before .before .before .before .pre .1 .1 .1 .2)))
+    ((few, omega (arith, below, z .inside, c .before .before .before .before .before .before .before .before .before .before .before .before .before .word-at .ensures)), ((f .low, f .high, f .proc, f .short), (omega (arith, f .most), c .before .before .before .before .before .before .before .before .before .before .before .before .before .before .before .before .before .before .before .before .pre .1 .1 .1 .1, c .before .before .before .before .before .before .before .before .before .before .before .before .before .before .before .before .before .before .before .before .pre .1 .1 .1 .2, c .before .before .before .before .before .before .before .before .before .before .before .before .before .before .before .before .before .before .before .before .pre .1 .1 .1 .3)))
 
 same-length-3 : tie.Need-same-length-3
 same-length-3 c = search needs

@@ -49,10 +49,10 @@ same-length c = search needs
 
 returns-3 : tie.Need-returns-3
 unfolding performOf transferred
-returns-3 c = ((λ lent bytes words h out. rw (← c .before .before .before .before .before .before .before .before .before .before .top-of .ensures, ← c .before .before .before .before .before .before .before .second-of .ensures, lt-ltb _ _ (c .before .before .before .before .before .before .before .before .before .if1 .left), lt-ltb _ _ (c .before .before .before .before .before .before .if2 .left), ← c .before .before .before .before .word-at .ensures, eq-eqb _ _ (c .before .before .if3 .taken), c .take-two .ensures .0, c .take-two .ensures .1)), anchored-on (c .before .before .before .before .before .before .before .before .before .before .before .before .before .before .pre .1 .1 .0) (stays-at _ _ _ _ _ (c .before .before .before .before .before .before .before .before .before .before .before .before .before .before .args .r) (c .take-two .ensures .0)))
+returns-3 c = ((λ lent bytes words h out. rw (← c .before .before .before .before .before .before .before .before .before .before .top-of .ensures, ← c .before .before .before .before .before .before .before .second-of .ensures, lt-ltb _ _ (c .before .before .before .before .before .before .before .before .before .if1 .left), lt-ltb _ _ (c .before .before .before .before .before .before .if2 .left), ← c .before .before .before .before .word-at .ensures, eq-eqb _ _ (c .before .before .if3 .taken), c .take-two .ensures .0, c .take-two .ensures .1)), anchored-on (c .before .before .before .before .before .before .before .before .before .before .before .before .before .before .pre .1 .1 .0) (stays-at _ _ _ _ _ (c .before .before .before .before .before .before .before .before .before .before .before .before .before .before .args .r) (c .before .before .before .before .before .before .before .before .before .before .before .before .before .before .pre .1 .1 .1 .1) (c .take-two .ensures .0)))
 
 switch-requires : tie.Need-switch-requires
-switch-requires c κs = (c .before .before .before .before .before .before .before .before .before .before .before .before .before .before .pre .0, (c .before .before .before .before .before .before .before .before .before .before .before .before .before .before .pre .1 .0, (c .before .before .before .before .before .before .before .before .before .before .before .before .before .before .pre .1 .1 .0, (c .before .before .before .before .before .before .before .before .before .before .before .before .before .before .pre .1 .1 .1 .0, c .before .before .before .before .before .before .if2 .left, c .before .before .before .before .before .before .before .before .before .before .before .before .before .before .pre .1 .1 .1 .1))))
+switch-requires c κs = (c .before .before .before .before .before .before .before .before .before .before .before .before .before .before .pre .0, (c .before .before .before .before .before .before .before .before .before .before .before .before .before .before .pre .1 .0, (c .before .before .before .before .before .before .before .before .before .before .before .before .before .before .pre .1 .1 .0, (c .before .before .before .before .before .before .before .before .before .before .before .before .before .before .pre .1 .1 .1 .0, c .before .before .before .before .before .before .if2 .left, c .before .before .before .before .before .before .before .before .before .before .before .before .before .before .pre .1 .1 .1 .1, c .before .before .before .before .before .before .before .before .before .before .before .before .before .before .pre .1 .1 .1 .2))))
 
 same-length-2 : tie.Need-same-length-2
 same-length-2 c = search needs

@@ -6,6 +6,9 @@ use Rattle.execute.proofs.steps.machine_of.Tie as tie
 cast-unit : tie.Need-cast-unit
 cast-unit c = search needs
 
+sub-place : tie.Need-sub-place
+sub-place c = search needs
+
 cast-place : tie.Need-cast-place
 cast-place c = search needs
 
@@ -17,5 +20,6 @@ machine-of-spec =
     tie.close
     (tie.spec
     cast-unit
+    sub-place
     cast-place
     returns)

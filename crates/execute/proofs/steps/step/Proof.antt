@@ -10,7 +10,7 @@ turn-requires : tie.Need-turn-requires
 turn-requires c κs = let a = asks-step (c .before .before .before .before .before .before .before .before .before .before .before .pre .0) _ (c .before .before .before .before .before .before .before .before .before .before .before .pre .1 .0) _ (c .before .before .before .core-of .ensures .0) (c .before .before .before .core-of .ensures .1) in (a .0, (a .1, c .before .before .before .before .before .before .before .before .before .before .before .pre .1 .1 .0, c .before .before .before .before .before .before .before .before .before .before .before .pre .1 .1 .1))
 
 machine-of-requires : tie.Need-machine-of-requires
-machine-of-requires c κs = (c .before .before .before .before .before .turn .ensures .1 .few, near-after _ _ (c .before .before .before .before .before .before .before .before .before .before .before .before .before .before .before .before .before .pre .0) (c .before .before .before .before .before .before .before .before .before .before .before .before .before .before .before .before .before .pre .1 .0) (c .before .before .before .before .before .before .before .before .before .before .before .before .before .before .before .before .before .pre .1 .1 .1) (after-step (c .before .before .before .before .before .before .before .before .before .before .before .before .before .before .before .before .before .pre .0) _ (c .before .before .before .before .before .before .before .before .before .before .before .before .before .before .before .before .before .pre .1 .0) _ (c .before .before .before .before .before .before .before .before .before .core-of .ensures .0) (c .before .before .before .before .before .before .before .before .before .core-of .ensures .1) _ _ _ (c .before .before .before .before .before .turn .ensures .0)))
+machine-of-requires c κs = (c .before .before .before .before .before .turn .ensures .1 .few, c .before .before .before .before .before .turn .ensures .1 .own, near-after _ _ (c .before .before .before .before .before .before .before .before .before .before .before .before .before .before .before .before .before .pre .0) (c .before .before .before .before .before .before .before .before .before .before .before .before .before .before .before .before .before .pre .1 .0) (c .before .before .before .before .before .before .before .before .before .before .before .before .before .before .before .before .before .pre .1 .1 .1) (after-step (c .before .before .before .before .before .before .before .before .before .before .before .before .before .before .before .before .before .pre .0) _ (c .before .before .before .before .before .before .before .before .before .before .before .before .before .before .before .before .before .pre .1 .0) _ (c .before .before .before .before .before .before .before .before .before .core-of .ensures .0) (c .before .before .before .before .before .before .before .before .before .core-of .ensures .1) _ _ _ (c .before .before .before .before .before .turn .ensures .0)))
 
 same-length : tie.Need-same-length
 same-length c = search needs

@@ -1,4 +1,5 @@
-use Rattle.rows_high.proofs.Laws.{is277}
+use Rattle.rows_high.proofs.Laws.{is265, is277}
+use Rattle.rows_high.proofs.Pairs.{pair-sums, paired}
 use Rattle.mcode.specs.Opcode.{takens, lefts, lengths}
 use Rattle.mcode.specs.Decode.{decodeOf, row11}
 use Rattle.mcode.specs.Step.{performOf}
@@ -14,163 +15,121 @@ add-to c = search needs
 
 copy-requires : tie.Need-copy-requires
 unfolding takens lefts lengths
-copy-requires c κs = omega (arith, rw (c .before .match .keys1) at (c .before .before .before .pre .1 .1))
+copy-requires c κs = omega (arith, rw (is265 (c .before .before .before .args .op) (c .before .before .before .fits .op .fits) (c .before .before .before .pre .0) (c .before .before .before .pre .1 .0) (c .before .if1 .taken)) at (c .before .before .before .pre .1 .1))
+
+returns : tie.Need-returns
+unfolding instruction decodeOf row11 performOf twoOf
+returns c = ((λ lent b d store out. rw (is265 (c .before .before .before .before .args .op) (c .before .before .before .before .fits .op .fits) (c .before .before .before .before .pre .0) (c .before .before .before .before .pre .1 .0) (c .before .before .if1 .taken)) (c .copy .ensures .0 lent store out)), c .copy .ensures .1)
 
 second-of-requires : tie.Need-second-of-requires
-unfolding takens lefts lengths
-second-of-requires c κs = omega (arith, rw (c .before .before .match .keys2) at (c .before .before .before .before .pre .1 .1))
+second-of-requires c κs = omega (arith, pair-sums (c .before .before .before .before .before .args .op) (c .before .before .before .if1 .left) (omega (arith, c .before .before .if2 .taken)) .takes, c .before .before .before .before .before .pre .1 .1 .deep, c .before .before .before .before .before .pre .1 .1 .most)
 
 top-of-requires : tie.Need-top-of-requires
-unfolding takens lefts lengths
-top-of-requires c κs = omega (arith, rw (c .before .before .before .before .match .keys2) at (c .before .before .before .before .before .before .pre .1 .1))
+top-of-requires c κs = omega (arith, pair-sums (c .before .before .before .before .before .before .before .args .op) (c .before .before .before .before .before .if1 .left) (omega (arith, c .before .before .before .before .if2 .taken)) .takes, c .before .before .before .before .before .before .before .pre .1 .1 .deep, c .before .before .before .before .before .before .before .pre .1 .1 .most)
 
-add-requires : tie.Need-add-requires
-add-requires c κs = search needs
+sums-requires : tie.Need-sums-requires
+sums-requires c κs = search needs
 
-replace-two-requires : tie.Need-replace-two-requires
-unfolding takens lefts lengths
-replace-two-requires c κs = omega (arith, rw (c .before .before .before .before .before .before .match .keys2) at (c .before .before .before .before .before .before .before .before .pre .1 .1))
+two-requires : tie.Need-two-requires
+two-requires c κs = omega (arith, pair-sums (c .before .before .before .before .before .before .before .before .before .args .op) (c .before .before .before .before .before .before .before .if1 .left) (omega (arith, c .before .before .before .before .before .before .if2 .taken)) .takes, c .before .before .before .before .before .before .before .before .before .pre .1 .1 .deep, c .before .before .before .before .before .before .before .before .before .pre .1 .1 .most, c .before .before .before .before .before .before .before .before .before .pre .1 .1 .own)
+
+returns-2 : tie.Need-returns-2
+returns-2 c = ((λ lent b d store out. paired _ _ _ _ (pair-sums (c .before .before .before .before .before .before .before .before .before .before .args .op) (c .before .before .before .before .before .before .before .before .if1 .left) (omega (arith, c .before .before .before .before .before .before .before .if2 .taken))) (c .before .sums .ensures) (c .before .before .before .before .second-of .ensures) (c .before .before .top-of .ensures) (c .two .ensures .0 store out) lent b d), c .two .ensures .1)
 
 second-of-requires-2 : tie.Need-second-of-requires-2
 unfolding takens lefts lengths
-second-of-requires-2 c κs = omega (arith, rw (c .before .before .match .keys3) at (c .before .before .before .before .pre .1 .1))
+second-of-requires-2 c κs = omega (arith, rw (c .before .before .match .keys1) at (c .before .before .before .before .before .before .pre .1 .1))
 
 top-of-requires-2 : tie.Need-top-of-requires-2
 unfolding takens lefts lengths
-top-of-requires-2 c κs = omega (arith, rw (c .before .before .before .before .match .keys3) at (c .before .before .before .before .before .before .pre .1 .1))
-
-sub-requires : tie.Need-sub-requires
-sub-requires c κs = search needs
-
-replace-two-requires-2 : tie.Need-replace-two-requires-2
-unfolding takens lefts lengths
-replace-two-requires-2 c κs = omega (arith, rw (c .before .before .before .before .before .before .match .keys3) at (c .before .before .before .before .before .before .before .before .pre .1 .1))
-
-second-of-requires-3 : tie.Need-second-of-requires-3
-unfolding takens lefts lengths
-second-of-requires-3 c κs = omega (arith, rw (c .before .before .match .keys4) at (c .before .before .before .before .pre .1 .1))
-
-top-of-requires-3 : tie.Need-top-of-requires-3
-unfolding takens lefts lengths
-top-of-requires-3 c κs = omega (arith, rw (c .before .before .before .before .match .keys4) at (c .before .before .before .before .before .before .pre .1 .1))
-
-mul-requires : tie.Need-mul-requires
-mul-requires c κs = search needs
-
-replace-two-requires-3 : tie.Need-replace-two-requires-3
-unfolding takens lefts lengths
-replace-two-requires-3 c κs = omega (arith, rw (c .before .before .before .before .before .before .match .keys4) at (c .before .before .before .before .before .before .before .before .pre .1 .1))
-
-second-of-requires-4 : tie.Need-second-of-requires-4
-unfolding takens lefts lengths
-second-of-requires-4 c κs = omega (arith, rw (c .before .before .match .keys5) at (c .before .before .before .before .pre .1 .1))
-
-top-of-requires-4 : tie.Need-top-of-requires-4
-unfolding takens lefts lengths
-top-of-requires-4 c κs = omega (arith, rw (c .before .before .before .before .match .keys5) at (c .before .before .before .before .before .before .pre .1 .1))
+top-of-requires-2 c κs = omega (arith, rw (c .before .before .before .before .match .keys1) at (c .before .before .before .before .before .before .before .before .pre .1 .1))
 
 div-requires : tie.Need-div-requires
 div-requires c κs = search needs
 
-two-requires : tie.Need-two-requires
+two-requires-2 : tie.Need-two-requires-2
 unfolding takens lefts lengths
-two-requires c κs = omega (arith, rw (c .before .before .before .before .before .before .match .keys5) at (c .before .before .before .before .before .before .before .before .pre .1 .1))
+two-requires-2 c κs = omega (arith, rw (c .before .before .before .before .before .before .match .keys1) at (c .before .before .before .before .before .before .before .before .before .before .pre .1 .1))
 
-second-of-requires-5 : tie.Need-second-of-requires-5
+second-of-requires-3 : tie.Need-second-of-requires-3
 unfolding takens lefts lengths
-second-of-requires-5 c κs = omega (arith, rw (c .before .before .match .keys6) at (c .before .before .before .before .pre .1 .1))
+second-of-requires-3 c κs = omega (arith, rw (c .before .before .match .keys2) at (c .before .before .before .before .before .before .pre .1 .1))
 
-top-of-requires-5 : tie.Need-top-of-requires-5
+top-of-requires-3 : tie.Need-top-of-requires-3
 unfolding takens lefts lengths
-top-of-requires-5 c κs = omega (arith, rw (c .before .before .before .before .match .keys6) at (c .before .before .before .before .before .before .pre .1 .1))
+top-of-requires-3 c κs = omega (arith, rw (c .before .before .before .before .match .keys2) at (c .before .before .before .before .before .before .before .before .pre .1 .1))
 
 rem-requires : tie.Need-rem-requires
 rem-requires c κs = search needs
 
-two-requires-2 : tie.Need-two-requires-2
+two-requires-3 : tie.Need-two-requires-3
 unfolding takens lefts lengths
-two-requires-2 c κs = omega (arith, rw (c .before .before .before .before .before .before .match .keys6) at (c .before .before .before .before .before .before .before .before .pre .1 .1))
+two-requires-3 c κs = omega (arith, rw (c .before .before .before .before .before .before .match .keys2) at (c .before .before .before .before .before .before .before .before .before .before .pre .1 .1))
 
-second-of-requires-6 : tie.Need-second-of-requires-6
+second-of-requires-4 : tie.Need-second-of-requires-4
 unfolding takens lefts lengths
-second-of-requires-6 c κs = omega (arith, rw (c .before .before .match .keys7) at (c .before .before .before .before .pre .1 .1))
+second-of-requires-4 c κs = omega (arith, rw (c .before .before .match .keys3) at (c .before .before .before .before .before .before .pre .1 .1))
 
-top-of-requires-6 : tie.Need-top-of-requires-6
+top-of-requires-4 : tie.Need-top-of-requires-4
 unfolding takens lefts lengths
-top-of-requires-6 c κs = omega (arith, rw (c .before .before .before .before .match .keys7) at (c .before .before .before .before .before .before .pre .1 .1))
+top-of-requires-4 c κs = omega (arith, rw (c .before .before .before .before .match .keys3) at (c .before .before .before .before .before .before .before .before .pre .1 .1))
 
 rotate-requires : tie.Need-rotate-requires
 rotate-requires c κs = search needs
 
-replace-two-requires-4 : tie.Need-replace-two-requires-4
+replace-two-requires : tie.Need-replace-two-requires
 unfolding takens lefts lengths
-replace-two-requires-4 c κs = omega (arith, rw (c .before .before .before .before .before .before .match .keys7) at (c .before .before .before .before .before .before .before .before .pre .1 .1))
+replace-two-requires c κs = omega (arith, rw (c .before .before .before .before .before .before .match .keys3) at (c .before .before .before .before .before .before .before .before .before .before .pre .1 .1))
 
-second-of-requires-7 : tie.Need-second-of-requires-7
+second-of-requires-5 : tie.Need-second-of-requires-5
 unfolding takens lefts lengths
-second-of-requires-7 c κs = omega (arith, rw (c .before .before .match .keys8) at (c .before .before .before .before .pre .1 .1))
+second-of-requires-5 c κs = omega (arith, rw (c .before .before .match .keys4) at (c .before .before .before .before .before .before .pre .1 .1))
 
-top-of-requires-7 : tie.Need-top-of-requires-7
+top-of-requires-5 : tie.Need-top-of-requires-5
 unfolding takens lefts lengths
-top-of-requires-7 c κs = omega (arith, rw (c .before .before .before .before .match .keys8) at (c .before .before .before .before .before .before .pre .1 .1))
+top-of-requires-5 c κs = omega (arith, rw (c .before .before .before .before .match .keys4) at (c .before .before .before .before .before .before .before .before .pre .1 .1))
 
 shl-requires : tie.Need-shl-requires
 shl-requires c κs = search needs
 
-replace-two-requires-5 : tie.Need-replace-two-requires-5
+replace-two-requires-2 : tie.Need-replace-two-requires-2
 unfolding takens lefts lengths
-replace-two-requires-5 c κs = omega (arith, rw (c .before .before .before .before .before .before .match .keys8) at (c .before .before .before .before .before .before .before .before .pre .1 .1))
+replace-two-requires-2 c κs = omega (arith, rw (c .before .before .before .before .before .before .match .keys4) at (c .before .before .before .before .before .before .before .before .before .before .pre .1 .1))
 
-second-of-requires-8 : tie.Need-second-of-requires-8
+second-of-requires-6 : tie.Need-second-of-requires-6
 unfolding takens lefts lengths
-second-of-requires-8 c κs = omega (arith, rw (is277 (c .before .before .before .before .args .op) (c .before .before .before .before .fits .op .fits) (c .before .before .before .before .pre .0) (c .before .before .before .before .pre .1 .0) (c .before .before .match .rest)) at (c .before .before .before .before .pre .1 .1))
+second-of-requires-6 c κs = omega (arith, rw (is277 (c .before .before .before .before .before .before .args .op) (c .before .before .before .before .before .before .fits .op .fits) (c .before .before .before .before .before .before .pre .0) (c .before .before .before .before .before .before .pre .1 .0) (c .before .before .before .if2 .left) (c .before .before .match .rest)) at (c .before .before .before .before .before .before .pre .1 .1))
 
-top-of-requires-8 : tie.Need-top-of-requires-8
+top-of-requires-6 : tie.Need-top-of-requires-6
 unfolding takens lefts lengths
-top-of-requires-8 c κs = omega (arith, rw (is277 (c .before .before .before .before .before .before .args .op) (c .before .before .before .before .before .before .fits .op .fits) (c .before .before .before .before .before .before .pre .0) (c .before .before .before .before .before .before .pre .1 .0) (c .before .before .before .before .match .rest)) at (c .before .before .before .before .before .before .pre .1 .1))
+top-of-requires-6 c κs = omega (arith, rw (is277 (c .before .before .before .before .before .before .before .before .args .op) (c .before .before .before .before .before .before .before .before .fits .op .fits) (c .before .before .before .before .before .before .before .before .pre .0) (c .before .before .before .before .before .before .before .before .pre .1 .0) (c .before .before .before .before .before .if2 .left) (c .before .before .before .before .match .rest)) at (c .before .before .before .before .before .before .before .before .pre .1 .1))
 
 shr-requires : tie.Need-shr-requires
 shr-requires c κs = search needs
 
-replace-two-requires-6 : tie.Need-replace-two-requires-6
+replace-two-requires-3 : tie.Need-replace-two-requires-3
 unfolding takens lefts lengths
-replace-two-requires-6 c κs = omega (arith, rw (is277 (c .before .before .before .before .before .before .before .before .args .op) (c .before .before .before .before .before .before .before .before .fits .op .fits) (c .before .before .before .before .before .before .before .before .pre .0) (c .before .before .before .before .before .before .before .before .pre .1 .0) (c .before .before .before .before .before .before .match .rest)) at (c .before .before .before .before .before .before .before .before .pre .1 .1))
-
-returns : tie.Need-returns
-unfolding instruction decodeOf row11 performOf twoOf
-returns c = ((λ lent b d store out. rw (c .before .before .match .keys1) (c .copy .ensures .0 lent store out)), c .copy .ensures .1)
-
-returns-2 : tie.Need-returns-2
-unfolding instruction decodeOf row11 performOf twoOf
-returns-2 c = ((λ lent b d store out. rw (c .before .before .before .before .before .before .before .match .keys2) (rw (c .before .add .ensures, c .before .before .top-of .ensures, c .before .before .before .before .second-of .ensures) at (c .replace-two .ensures .0 store out))), c .replace-two .ensures .1)
+replace-two-requires-3 c κs = omega (arith, rw (is277 (c .before .before .before .before .before .before .before .before .before .before .args .op) (c .before .before .before .before .before .before .before .before .before .before .fits .op .fits) (c .before .before .before .before .before .before .before .before .before .before .pre .0) (c .before .before .before .before .before .before .before .before .before .before .pre .1 .0) (c .before .before .before .before .before .before .before .if2 .left) (c .before .before .before .before .before .before .match .rest)) at (c .before .before .before .before .before .before .before .before .before .before .pre .1 .1))
 
 returns-3 : tie.Need-returns-3
 unfolding instruction decodeOf row11 performOf twoOf
-returns-3 c = ((λ lent b d store out. rw (c .before .before .before .before .before .before .before .match .keys3) (rw (c .before .sub .ensures, c .before .before .top-of2 .ensures, c .before .before .before .before .second-of2 .ensures) at (c .replace-two2 .ensures .0 store out))), c .replace-two2 .ensures .1)
+returns-3 c = ((λ lent b d store out. rw (c .before .before .before .before .before .before .before .match .keys1) (rw (c .before .div .ensures, c .before .before .top-of2 .ensures, c .before .before .before .before .second-of2 .ensures) at (c .two2 .ensures .0 store out))), c .two2 .ensures .1)
 
 returns-4 : tie.Need-returns-4
 unfolding instruction decodeOf row11 performOf twoOf
-returns-4 c = ((λ lent b d store out. rw (c .before .before .before .before .before .before .before .match .keys4) (rw (c .before .mul .ensures, c .before .before .top-of3 .ensures, c .before .before .before .before .second-of3 .ensures) at (c .replace-two3 .ensures .0 store out))), c .replace-two3 .ensures .1)
+returns-4 c = ((λ lent b d store out. rw (c .before .before .before .before .before .before .before .match .keys2) (rw (c .before .rem .ensures, c .before .before .top-of3 .ensures, c .before .before .before .before .second-of3 .ensures) at (c .two3 .ensures .0 store out))), c .two3 .ensures .1)
 
 returns-5 : tie.Need-returns-5
 unfolding instruction decodeOf row11 performOf twoOf
-returns-5 c = ((λ lent b d store out. rw (c .before .before .before .before .before .before .before .match .keys5) (rw (c .before .div .ensures, c .before .before .top-of4 .ensures, c .before .before .before .before .second-of4 .ensures) at (c .two .ensures .0 store out))), c .two .ensures .1)
+returns-5 c = ((λ lent b d store out. rw (c .before .before .before .before .before .before .before .match .keys3) (rw (c .before .rotate .ensures, c .before .before .top-of4 .ensures, c .before .before .before .before .second-of4 .ensures) at (c .replace-two .ensures .0 store out))), c .replace-two .ensures .1)
 
 returns-6 : tie.Need-returns-6
 unfolding instruction decodeOf row11 performOf twoOf
-returns-6 c = ((λ lent b d store out. rw (c .before .before .before .before .before .before .before .match .keys6) (rw (c .before .rem .ensures, c .before .before .top-of5 .ensures, c .before .before .before .before .second-of5 .ensures) at (c .two2 .ensures .0 store out))), c .two2 .ensures .1)
+returns-6 c = ((λ lent b d store out. rw (c .before .before .before .before .before .before .before .match .keys4) (rw (c .before .shl .ensures, c .before .before .top-of5 .ensures, c .before .before .before .before .second-of5 .ensures) at (c .replace-two2 .ensures .0 store out))), c .replace-two2 .ensures .1)
 
 returns-7 : tie.Need-returns-7
 unfolding instruction decodeOf row11 performOf twoOf
-returns-7 c = ((λ lent b d store out. rw (c .before .before .before .before .before .before .before .match .keys7) (rw (c .before .rotate .ensures, c .before .before .top-of6 .ensures, c .before .before .before .before .second-of6 .ensures) at (c .replace-two4 .ensures .0 store out))), c .replace-two4 .ensures .1)
-
-returns-8 : tie.Need-returns-8
-unfolding instruction decodeOf row11 performOf twoOf
-returns-8 c = ((λ lent b d store out. rw (c .before .before .before .before .before .before .before .match .keys8) (rw (c .before .shl .ensures, c .before .before .top-of7 .ensures, c .before .before .before .before .second-of7 .ensures) at (c .replace-two5 .ensures .0 store out))), c .replace-two5 .ensures .1)
-
-returns-9 : tie.Need-returns-9
-unfolding instruction decodeOf row11 performOf twoOf
-returns-9 c = ((λ lent b d store out. rw (is277 (c .before .before .before .before .before .before .before .before .before .args .op) (c .before .before .before .before .before .before .before .before .before .fits .op .fits) (c .before .before .before .before .before .before .before .before .before .pre .0) (c .before .before .before .before .before .before .before .before .before .pre .1 .0) (c .before .before .before .before .before .before .before .match .rest)) (rw (c .before .shr .ensures, c .before .before .top-of8 .ensures, c .before .before .before .before .second-of8 .ensures) at (c .replace-two6 .ensures .0 store out))), c .replace-two6 .ensures .1)
+returns-7 c = ((λ lent b d store out. rw (is277 (c .before .before .before .before .before .before .before .before .before .before .before .args .op) (c .before .before .before .before .before .before .before .before .before .before .before .fits .op .fits) (c .before .before .before .before .before .before .before .before .before .before .before .pre .0) (c .before .before .before .before .before .before .before .before .before .before .before .pre .1 .0) (c .before .before .before .before .before .before .before .before .if2 .left) (c .before .before .before .before .before .before .before .match .rest)) (rw (c .before .shr .ensures, c .before .before .top-of6 .ensures, c .before .before .before .before .second-of6 .ensures) at (c .replace-two3 .ensures .0 store out))), c .replace-two3 .ensures .1)
 
 pub row11-spec : {M : Type 1} → statement M
 row11-spec =
@@ -178,44 +137,34 @@ row11-spec =
     (tie.spec
     add-to
     copy-requires
+    returns
     second-of-requires
     top-of-requires
-    add-requires
-    replace-two-requires
+    sums-requires
+    two-requires
+    returns-2
     second-of-requires-2
     top-of-requires-2
-    sub-requires
-    replace-two-requires-2
+    div-requires
+    two-requires-2
     second-of-requires-3
     top-of-requires-3
-    mul-requires
-    replace-two-requires-3
+    rem-requires
+    two-requires-3
     second-of-requires-4
     top-of-requires-4
-    div-requires
-    two-requires
+    rotate-requires
+    replace-two-requires
     second-of-requires-5
     top-of-requires-5
-    rem-requires
-    two-requires-2
+    shl-requires
+    replace-two-requires-2
     second-of-requires-6
     top-of-requires-6
-    rotate-requires
-    replace-two-requires-4
-    second-of-requires-7
-    top-of-requires-7
-    shl-requires
-    replace-two-requires-5
-    second-of-requires-8
-    top-of-requires-8
     shr-requires
-    replace-two-requires-6
-    returns
-    returns-2
+    replace-two-requires-3
     returns-3
     returns-4
     returns-5
     returns-6
-    returns-7
-    returns-8
-    returns-9)
+    returns-7)

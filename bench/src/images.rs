@@ -18,6 +18,8 @@ pub struct Long {
 
 /// The base of the first module.
 const BASE: u16 = 128;
+/// The words of a module before its data.
+pub const MODULE_WORDS: usize = 3;
 
 fn procedure(entry: usize, parameters: u8, results: u8) -> Procedure {
     Procedure {
@@ -27,19 +29,24 @@ fn procedure(entry: usize, parameters: u8, results: u8) -> Procedure {
     }
 }
 
-/// Code that begins with S raised past 8 locals.
-struct Code(Vec<u8>);
+/// Code under construction.
+pub struct Code(pub Vec<u8>);
 
 impl Code {
+    /// Code that begins with S raised past 8 locals.
     fn new() -> Code {
-        Code(vec![0o353, 8])
+        Code::with_locals(8)
     }
 
-    fn here(&self) -> usize {
+    pub fn with_locals(count: u8) -> Code {
+        Code(vec![0o353, count])
+    }
+
+    pub fn here(&self) -> usize {
         self.0.len()
     }
 
-    fn put(&mut self, bytes: &[u8]) -> &mut Code {
+    pub fn put(&mut self, bytes: &[u8]) -> &mut Code {
         self.0.extend(bytes);
         self
     }
@@ -53,8 +60,16 @@ impl Code {
         ])
     }
 
+    /// A jump back by a word.
+    pub fn far_back(&mut self, target: usize) -> &mut Code {
+        let distance = self.here() + 1 - target;
+        let distance = i16::try_from(distance).expect("a jump back by a word");
+        let [high, low] = (-distance).to_be_bytes();
+        self.put(&[0o031, high, low])
+    }
+
     /// A jump forward with this opcode, over the code that `body` puts.
-    fn over(&mut self, opcode: u8, body: impl FnOnce(&mut Code)) -> &mut Code {
+    pub fn over(&mut self, opcode: u8, body: impl FnOnce(&mut Code)) -> &mut Code {
         self.put(&[opcode, 0]);
         let operand = self.here() - 1;
         body(self);
@@ -80,7 +95,7 @@ fn with_data(code: Vec<u8>) -> Source {
     }
 }
 
-fn plain(name: &'static str, modules: &[Source]) -> Loop {
+pub fn plain(name: &'static str, modules: &[Source]) -> Loop {
     Loop {
         name,
         image: encode(modules),

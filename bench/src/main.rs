@@ -2,6 +2,7 @@
 
 mod compare;
 mod images;
+mod mixed;
 mod sides;
 mod speed;
 mod words;

@@ -1,6 +1,7 @@
 //! Times both sides in turn, in one process, after their results were compared.
 
 use crate::images::{self, Long, Loop};
+use crate::mixed;
 use crate::sides::{Compared, Sides};
 use std::time::Instant;
 
@@ -60,11 +61,26 @@ fn time_steps(sides: &mut Sides, n: u32) -> Compared<[f64; 2]> {
     ))
 }
 
-fn time_loop(one: &Loop) -> Compared<()> {
+/// Times in nanoseconds a step.
+fn time_loop(one: &Loop) -> Compared<[f64; 2]> {
     let mut sides = begun(&one.image, &one.patches)?;
     let times = time_steps(&mut sides, STEPS)?;
     let each = times.map(|time| time * 1e9 / f64::from(STEPS));
     line(one.name, "ns/step", each, each[0] / each[1]);
+    Ok(each)
+}
+
+/// A line for each program, and their geometric mean.
+fn time_loops(loops: &[Loop]) -> Compared<()> {
+    let mut logs = [0.0; 2];
+    for one in loops {
+        let each = time_loop(one).map_err(|error| format!("{}: {error}", one.name))?;
+        for (log, time) in logs.iter_mut().zip(each) {
+            *log += time.ln() / loops.len() as f64;
+        }
+    }
+    let mean = logs.map(f64::exp);
+    line("geometric mean", "ns/step", mean, mean[0] / mean[1]);
     Ok(())
 }
 
@@ -107,10 +123,10 @@ pub fn speed() -> Compared<()> {
         "{:24} {:>9} {:>9} {:8} {:>6}",
         "", "proved", "second", "", "ratio"
     );
-    println!("steps (ratio of times: below 1 the proved engine is faster)");
-    for one in images::loops() {
-        time_loop(&one).map_err(of(one.name))?;
-    }
+    println!("steps of short loops (ratio of times: below 1 the proved engine is faster)");
+    time_loops(&images::loops())?;
+    println!("steps of mixed programs");
+    time_loops(&mixed::programs())?;
     println!("load");
     for one in &long {
         time_load(one).map_err(of(one.name))?;

@@ -1,7 +1,7 @@
 //! The seeded generator of cases. Case `index` of a seed is always the same.
 
 mod code;
-mod rng;
+pub mod rng;
 mod state;
 
 use crate::assemble::{encode, Source};

@@ -2,7 +2,8 @@
 use mathlib.Core.Path.{_≡_, refl, sym, ap, ap₂, _∙_}
 use mathlib.Core.Bool.{Bool, true, false, false≢true}
 use mathlib.Core.List.{List}
-use Prim.Native.Nat.{ℕ, _+_, _-_, _≤_, _<_}
+use Prim.Native.Nat.{ℕ, zero, suc, _+_, _-_, _≤_, _<_}
+use native.Mathlib.Nat.{add-zero, zero-add, add-suc, suc-add, le-of-suc-le-suc, not-suc-le-zero}
 use native.Mathlib.Omega.{arith}
 use lib.ListN.{getD, drop}
 use lib.Seq.{getD-drop}
@@ -18,7 +19,7 @@ use Rattle.mcode.specs.Image.{codeByte}
 use Rattle.mcode.specs.Depths.{flowAt, onward, jumps, calls, callsIn, namesModule, target}
 use Rattle.depths.specs.declared.rules.Row.{Row}
 use Rattle.depths.specs.declared.rules.Row.the-variants.{Unfit, Next}
-use Rattle.depths.specs.Cases.{rowAt, jumping, ending, plain}
+use Rattle.depths.specs.Cases.{rowAt, jumping, ending, plain, kindOf, kindsFrom, kinds}
 
 -- equal numbers give an equal flow
 cong3 : (f : ℕ → ℕ → ℕ → Flow) {a b c a′ b′ c′ : ℕ} → a ≡ a′ → b ≡ b′ → c ≡ c′ → f a b c ≡ f a′ b′ c′
@@ -91,6 +92,50 @@ module _ (image : List ℕ) (program : Program) (m : Module) (p op b c n e : ℕ
         rw (h, j, no-module op (omega (arith, l)), le-ltb op 0o355 (omega (arith, l)), ne-eqb op 0o355 (λ z. omega (arith, l, z)))
         (one-call (leb op 0o360) (λ (i : ℕ). calls image m i n e) b (op - 0o360))
 
+-- what the kind of an opcode says of its tests
+abbrev by-tests : Bool → Bool → Bool → ℕ
+by-tests j h q = pick j 1 (pick h 2 (pick q 0 3))
+
+of-plain : (j h q : Bool) → by-tests j h q ≡ 0 → (j ≡ false) × (h ≡ false) × (q ≡ true)
+of-plain true h q k = absurd (omega (arith, k))
+of-plain false true q k = absurd (omega (arith, k))
+of-plain false false true k = (refl, refl, refl)
+of-plain false false false k = absurd (omega (arith, k))
+
+of-jump : (j h q : Bool) → by-tests j h q ≡ 1 → j ≡ true
+of-jump true h q k = refl
+of-jump false true q k = absurd (omega (arith, k))
+of-jump false false true k = absurd (omega (arith, k))
+of-jump false false false k = absurd (omega (arith, k))
+
+of-last : (j h q : Bool) → by-tests j h q ≡ 2 → h ≡ true
+of-last true h q k = absurd (omega (arith, k))
+of-last false true q k = refl
+of-last false false true k = absurd (omega (arith, k))
+of-last false false false k = absurd (omega (arith, k))
+
+of-other : (j h q : Bool) → (by-tests j h q ≡ 0 → ⊥) → (by-tests j h q ≡ 1 → ⊥) → (by-tests j h q ≡ 2 → ⊥)
+    → (j ≡ false) × (h ≡ false) × (q ≡ false)
+of-other true h q x y z = absurd (y refl)
+of-other false true q x y z = absurd (z refl)
+of-other false false true x y z = absurd (x refl)
+of-other false false false x y z = (refl, refl, refl)
+
+pub kind-other : (op : ℕ) → (kindOf op ≡ 0 → ⊥) → (kindOf op ≡ 1 → ⊥) → (kindOf op ≡ 2 → ⊥) → (jumping op ≡ false) × (ending op ≡ false) × (plain op ≡ false)
+unfolding kindOf
+kind-other op = of-other (jumping op) (ending op) (plain op)
+
+-- the table has the kind of every opcode
+kind-from : (i n k : ℕ) → k < n → getD (kindsFrom i n) k 0 ≡ kindOf (i + k)
+unfolding kindsFrom
+kind-from i zero k l = absurd (not-suc-le-zero l)
+kind-from i (suc n) zero l = ap kindOf (sym (add-zero i))
+kind-from i (suc n) (suc k) l = kind-from (suc i) n k (le-of-suc-le-suc l) ∙ ap kindOf (suc-add i k ∙ sym (add-suc i k))
+
+pub kind-at : (op : ℕ) → op < 256 → getD kinds op 0 ≡ kindOf op
+unfolding kinds
+kind-at op l = kind-from 0 256 op l ∙ ap kindOf (zero-add op)
+
 -- the cases of a row
 module _ (image : List ℕ) (program : Program) (m : Module) (p d : ℕ) where
   flow-row : flowAt image program m p d ≡ after (onward image program m p (codeByte image m p) (codeByte image m (p + 1)) (codeByte image m (p + 2))) (rowAt (codeByte image m p) p d (m .length))
@@ -117,15 +162,21 @@ module _ (image : List ℕ) (program : Program) (m : Module) (p d : ℕ) where
           → flowAt image program m p d ≡ onward image program m p op b c n e
       flow-next b c x y = by-row (Next n e) q ∙ cong3 (λ (t u v : ℕ). onward image program m p t u v n e) (sym o) (sym x) (sym y)
 
-      pub flow-jump : jumping op ≡ true → (t b c : ℕ) → t ≡ target op (p + 1) b c → b ≡ codeByte image m (p + 1) → c ≡ codeByte image m (p + 2)
+      pub flow-jump : kindOf op ≡ 1 → (t b c : ℕ) → t ≡ target op (p + 1) b c → b ≡ codeByte image m (p + 1) → c ≡ codeByte image m (p + 2)
           → flowAt image program m p d ≡ jumps op t n e
-      flow-jump j t b c z x y = flow-next b c x y ∙ onward-jump image program m p op b c n e j ∙ ap (λ (u : ℕ). jumps op u n e) (sym z)
+      unfolding kindOf
+      flow-jump k t b c z x y =
+          flow-next b c x y ∙ onward-jump image program m p op b c n e (of-jump (jumping op) (ending op) (plain op) k) ∙ ap (λ (u : ℕ). jumps op u n e) (sym z)
 
-      pub flow-ends : ending op ≡ true → flowAt image program m p d ≡ Ends
-      flow-ends h = flow-next _ _ refl refl ∙ onward-ends image program m p op _ _ n e h
+      pub flow-ends : kindOf op ≡ 2 → flowAt image program m p d ≡ Ends
+      unfolding kindOf
+      flow-ends k = flow-next _ _ refl refl ∙ onward-ends image program m p op _ _ n e (of-last (jumping op) (ending op) (plain op) k)
 
-      pub flow-plain : jumping op ≡ false → ending op ≡ false → plain op ≡ true → flowAt image program m p d ≡ To n e
-      flow-plain j h l = flow-next _ _ refl refl ∙ onward-plain image program m p op _ _ n e j h l
+      pub flow-plain : kindOf op ≡ 0 → flowAt image program m p d ≡ To n e
+      unfolding kindOf
+      flow-plain k =
+          let u = of-plain (jumping op) (ending op) (plain op) k in
+          flow-next _ _ refl refl ∙ onward-plain image program m p op _ _ n e (u .0) (u .1) (u .2)
 
 -- the image from a on has its bytes
 pub code-byte : (image code : List ℕ) (a i k : ℕ) → code ≡ drop a image → a + i ≡ k → byte code i ≡ byte image k

@@ -1,7 +1,8 @@
 -- The cases in which the code takes the rules of an instruction. mcode's specs/Depths.antt has the rules, and every function's contract
 -- says what it answers by them.
-use Prim.Native.Nat.{ℕ, _+_, _-_}
+use Prim.Native.Nat.{ℕ, zero, suc, _+_, _-_}
 use mathlib.Core.Bool.{Bool, false}
+use mathlib.Core.List.{List, [], _∷_}
 use lib.ListN.{getD}
 use lib.Dec.{ltb, leb, eqb}
 use Rattle.mcode.specs.Word.{pick, and, or}
@@ -31,3 +32,15 @@ ending op = or (eqb op 0o304) (eqb op 0o354)
 
 abbrev pub plain : ℕ → Bool
 plain op = pick (namesModule op) false (ltb op 0o355)
+
+-- the kind of an opcode, by these tests: 0 has the next one as its only successor, 1 jumps, 2 has none, 3 names a module or is a call
+unfoldable pub kindOf : ℕ → ℕ
+kindOf op = pick (jumping op) 1 (pick (ending op) 2 (pick (plain op) 0 3))
+
+-- the kinds of n opcodes from op on, and of all
+unfoldable pub kindsFrom : ℕ → ℕ → List ℕ
+kindsFrom op zero = []
+kindsFrom op (suc n) = kindOf op ∷ kindsFrom (suc op) n
+
+unfoldable pub kinds : List ℕ
+kinds = kindsFrom 0 256

@@ -10,6 +10,7 @@ use Rattle.mcode.specs.Depths.{Analysis, depths}
 use Rattle.mcode.specs.Layout.{Sound}
 use Rattle.mcode.specs.declared.Module.{Module}
 use Rattle.mcode.specs.declared.Program.{Program}
+use Rattle.depths.specs.Cases.{kinds}
 
 -- a module of which only its procedure records are known
 abbrev pub light : ℕ → ℕ → Module
@@ -43,10 +44,11 @@ pub record Placed (image : List ℕ) (count : ℕ) (procs tables : List ℕ) : T
   pub near : (k : ℕ) → k < count → getD tables k 0 ≤ 65535
   pub results : (k : ℕ) → k < count → (i : ℕ) → i < procCount (light (getD procs k 0) (getD tables k 0)) → resultsOf image (light (getD procs k 0) (getD tables k 0)) i ≤ 4
 
--- all that the check of module m is lent: the image, the records, and the opcode table
-pub record Ready (image : List ℕ) (count : ℕ) (procs tables : List ℕ) (m : Module) (sizes takes leaves : List ℕ) : Type 0 where
+-- all that the check of module m is lent: the image, the records, the opcode table and the kinds of the opcodes
+pub record Ready (image : List ℕ) (count : ℕ) (procs tables : List ℕ) (m : Module) (sizes takes leaves lent : List ℕ) : Type 0 where
   pub sound : Sound image m
   pub placed : Placed image count procs tables
   pub sizes-are : sizes ≡ lengths
   pub takes-are : takes ≡ takens
   pub leaves-are : leaves ≡ lefts
+  pub kinds-are : lent ≡ kinds

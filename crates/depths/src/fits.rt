@@ -1,12 +1,13 @@
 // The test of a map that anybody lends: refusal 12. Marks beyond the fewest are allowed.
+use crate::kinds::JUMP;
+use crate::kinds::LAST;
+use crate::kinds::PLAIN;
 use crate::records::records_of;
 use crate::rules::Row;
 use crate::rules::byte_at;
-use crate::rules::ends;
 use crate::rules::entry_of;
-use crate::rules::is_jump;
-use crate::rules::is_plain;
 use crate::rules::jump;
+use crate::rules::kind_of;
 use crate::rules::onward_at;
 use crate::rules::params_of;
 use crate::rules::proc_count;
@@ -85,9 +86,10 @@ fn position_fits(
     sizes: &[u8; 256],
     takes: &[u8; 256],
     leaves: &[u8; 256],
+    kinds: &[u8; 256],
 ) -> bool
     requires { ⌜ (p < m .length) × (length (now map) ≡ m .length) × (now code ≡ drop (m .code) (now image)) ⌝ }
-    requires { ⌜ Ready (now image) count (now procs) (now tables) m (now sizes) (now takes) (now leaves) ⌝ }
+    requires { ⌜ Ready (now image) count (now procs) (now tables) m (now sizes) (now takes) (now leaves) (now kinds) ⌝ }
     ensures { λ r. ⌜ r ≡ test.followedIn (now (map .entry)) (flowAt (now (image .entry)) (lightOf count (now (procs .entry)) (now (tables .entry))) m p d) ⌝ }
 {
     let op = code[p];
@@ -95,16 +97,17 @@ fn position_fits(
     match row {
         Row::Unfit => false,
         Row::Next(n, e) => {
-            if is_jump(op) {
+            let kind = kind_of(kinds, op);
+            if kind == PLAIN {
+                return has_mark(map, n, e);
+            }
+            if kind == JUMP {
                 let t = target_at(code, p + 1, op, p + 1);
                 let f = jump(op, t, n, e);
                 return follows(map, f);
             }
-            if ends(op) {
+            if kind == LAST {
                 return true;
-            }
-            if is_plain(op) {
-                return has_mark(map, n, e);
             }
             let b = byte_at(code, p + 1);
             let c = byte_at(code, p + 2);
@@ -126,8 +129,9 @@ fn marks_fit(
     sizes: &[u8; 256],
     takes: &[u8; 256],
     leaves: &[u8; 256],
+    kinds: &[u8; 256],
 ) -> bool
-    requires { ⌜ Ready (now image) count (now procs) (now tables) m (now sizes) (now takes) (now leaves) ⌝ }
+    requires { ⌜ Ready (now image) count (now procs) (now tables) m (now sizes) (now takes) (now leaves) (now kinds) ⌝ }
     requires { ⌜ (length (now map) ≡ m .length) × (now code ≡ drop (m .code) (now image)) ⌝ }
     ensures { λ r. ⌜ r ≡ test.marksFit (depthsOf (now (image .entry)) count (now (procs .entry)) (now (tables .entry)) m) (now (map .entry)) ⌝ }
 {
@@ -148,6 +152,7 @@ fn marks_fit(
                 sizes,
                 takes,
                 leaves,
+                kinds,
             );
             if !ok {
                 return false;
@@ -169,8 +174,9 @@ fn part_fits(
     sizes: &[u8; 256],
     takes: &[u8; 256],
     leaves: &[u8; 256],
+    kinds: &[u8; 256],
 ) -> bool
-    requires { ⌜ Ready (now image) count (now procs) (now tables) m (now sizes) (now takes) (now leaves) ⌝ }
+    requires { ⌜ Ready (now image) count (now procs) (now tables) m (now sizes) (now takes) (now leaves) (now kinds) ⌝ }
     requires { ⌜ length (now map) ≡ m .length ⌝ }
     ensures { λ r. ⌜ r ≡ fits (depthsOf (now (image .entry)) count (now (procs .entry)) (now (tables .entry)) m) (now (map .entry)) ⌝ }
 {
@@ -188,6 +194,7 @@ fn part_fits(
             sizes,
             takes,
             leaves,
+            kinds,
         );
     }
     false
@@ -217,6 +224,7 @@ pub fn map_fits(image: &[u8], program: Program, map: &[u8]) -> bool
     let sizes = mcode::opcode::LENGTH;
     let takes = mcode::opcode::TAKEN;
     let leaves = mcode::opcode::LEFT;
+    let kinds = crate::kinds::KIND;
     let records = records_of(program);
     let procs = records.procs;
     let tables = records.tables;
@@ -241,6 +249,7 @@ pub fn map_fits(image: &[u8], program: Program, map: &[u8]) -> bool
             &sizes,
             &takes,
             &leaves,
+            &kinds,
         );
         if !ok {
             return false;

@@ -1,6 +1,7 @@
 // The depth check of one module's code: a worklist search for the fewest marks that fit. mcode's specs/Depths.antt says what a
-// fitting assignment is. `fits` tests a map that anybody lends, `rules` has the rules, `records` the records that both are lent.
+// fitting assignment is. `fits` tests a map that anybody lends, `rules` has the rules, `records` and `kinds` what both are lent.
 pub mod fits;
+pub mod kinds;
 pub mod records;
 pub mod rules;
 
@@ -77,13 +78,26 @@ fn expand(
     sizes: &[u8; 256],
     takes: &[u8; 256],
     leaves: &[u8; 256],
+    kinds: &[u8; 256],
 ) -> Turn
-    requires { ⌜ Ready (now image) count (now procs) (now tables) m (now sizes) (now takes) (now leaves) ⌝ }
+    requires { ⌜ Ready (now image) count (now procs) (now tables) m (now sizes) (now takes) (now leaves) (now kinds) ⌝ }
     requires { ⌜ (h < t) × (getD (now work) h 0 ≡ p) × (getD (now map) p 255 ≡ d) ⌝ }
     requires { ⌜ Queue (depthsOf (now image) count (now procs) (now tables) m) (now map) (now work) h t ⌝ }
     ensures { λ r. ⌜ Advanced (depthsOf (now (image .entry)) count (now (procs .entry)) (now (tables .entry)) m) (h + 1) (now (map .entry)) r (now (map .exit)) (now (work .exit)) ⌝ }
 {
-    let f = rules::flow_at(image, p, d, count, procs, tables, m, sizes, takes, leaves);
+    let f = rules::flow_at(
+        image,
+        p,
+        d,
+        count,
+        procs,
+        tables,
+        m,
+        sizes,
+        takes,
+        leaves,
+        kinds,
+    );
     match f {
         Flow::Fault => Turn::Stop,
         Flow::Ends => head(map, work, h + 1, t),
@@ -164,8 +178,9 @@ fn drain(
     sizes: &[u8; 256],
     takes: &[u8; 256],
     leaves: &[u8; 256],
+    kinds: &[u8; 256],
 ) -> bool
-    requires { ⌜ Ready (now image) count (now procs) (now tables) m (now sizes) (now takes) (now leaves) ⌝ }
+    requires { ⌜ Ready (now image) count (now procs) (now tables) m (now sizes) (now takes) (now leaves) (now kinds) ⌝ }
     requires { ⌜ Started (depthsOf (now image) count (now procs) (now tables) m) (Visit.Tail until) (now map) (now work) ⌝ }
     ensures { λ r. ⌜ Found (depthsOf (now (image .entry)) count (now (procs .entry)) (now (tables .entry)) m) r (now (map .exit)) ⌝ }
 {
@@ -195,6 +210,7 @@ fn drain(
                     sizes,
                     takes,
                     leaves,
+                    kinds,
                 );
                 h += 1;
             }
@@ -226,8 +242,9 @@ pub fn check(
     sizes: &[u8; 256],
     takes: &[u8; 256],
     leaves: &[u8; 256],
+    kinds: &[u8; 256],
 ) -> bool
-    requires { ⌜ Ready (now image) count (now procs) (now tables) m (now sizes) (now takes) (now leaves) ⌝ }
+    requires { ⌜ Ready (now image) count (now procs) (now tables) m (now sizes) (now takes) (now leaves) (now kinds) ⌝ }
     requires { ⌜ length (now map) ≡ m .length ⌝ }
     requires { ⌜ m .length ≤ length (now work) ⌝ }
     ensures { λ r. ⌜ Answer (depthsOf (now (image .entry)) count (now (procs .entry)) (now (tables .entry)) m) r (now (map .exit)) ⌝ }
@@ -252,6 +269,7 @@ pub fn check(
                 sizes,
                 takes,
                 leaves,
+                kinds,
             ) {
                 return true;
             }

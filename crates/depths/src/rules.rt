@@ -1,4 +1,7 @@
 // What follows an instruction at a depth: the rules of the paper, as mcode's specs/Depths.antt has them.
+use crate::kinds::JUMP;
+use crate::kinds::LAST;
+use crate::kinds::PLAIN;
 use mcode::Flow;
 use mcode::Module;
 ghost use mathlib.Core.Path.{_≡_};
@@ -10,7 +13,7 @@ ghost use Rattle.mcode.specs.Word.{pick, byte};
 ghost use Rattle.mcode.specs.Opcode.{lengths, takens, lefts};
 ghost use Rattle.mcode.specs.Image.{moduleOf, procCount, entryOf, paramsOf, resultsOf};
 ghost use Rattle.mcode.specs.Depths.{target, jumps, calls, callsIn, namesModule, onward, flowAt};
-ghost use Rattle.depths.specs.Cases.{rowAt, jumping, ending, plain};
+ghost use Rattle.depths.specs.Cases.{rowAt, jumping, ending, plain, kindOf, kinds};
 ghost use Rattle.depths.specs.Lent.{lightOf, Placed, Ready};
 
 // A byte as a number.
@@ -40,6 +43,14 @@ fn left_of(t: &[u8; 256], op: u8) -> usize
     ensures { λ r. ⌜ (r ≡ getD lefts op 0) × (r < 256) ⌝ }
 {
     wide(t[op as usize])
+}
+
+// The kind of op, from the lent table.
+pub fn kind_of(t: &[u8; 256], op: u8) -> u8
+    requires { ⌜ now t ≡ kinds ⌝ }
+    ensures { λ r. ⌜ r ≡ kindOf op ⌝ }
+{
+    t[op as usize]
 }
 
 // A byte of s; 0 outside.
@@ -187,19 +198,6 @@ fn call_in(
     Flow::Fault
 }
 
-// TRAP and RTN have no successor.
-pub fn ends(op: u8) -> bool
-    ensures { λ r. ⌜ r ≡ ending op ⌝ }
-{
-    if op == 0o304 {
-        return true;
-    }
-    if op == 0o354 {
-        return true;
-    }
-    false
-}
-
 // 030 to 037.
 pub fn is_jump(op: u8) -> bool
     ensures { λ r. ⌜ r ≡ jumping op ⌝ }
@@ -227,16 +225,6 @@ pub fn names_module(op: u8) -> bool
         return true;
     }
     false
-}
-
-// Whether an instruction that is no jump and has a successor only goes on to the next one: it names no module, and is no call.
-pub fn is_plain(op: u8) -> bool
-    ensures { λ r. ⌜ r ≡ plain op ⌝ }
-{
-    if names_module(op) {
-        return false;
-    }
-    op < 0o355
 }
 
 // The procedure that a call inside the module names.
@@ -336,9 +324,10 @@ pub fn flow_at(
     sizes: &[u8; 256],
     takes: &[u8; 256],
     leaves: &[u8; 256],
+    kinds: &[u8; 256],
 ) -> Flow
     requires { ⌜ p < m .length ⌝ }
-    requires { ⌜ Ready (now image) count (now procs) (now tables) m (now sizes) (now takes) (now leaves) ⌝ }
+    requires { ⌜ Ready (now image) count (now procs) (now tables) m (now sizes) (now takes) (now leaves) (now kinds) ⌝ }
     ensures { λ r. ⌜ r ≡ flowAt (now (image .entry)) (lightOf count (now (procs .entry)) (now (tables .entry))) m p d ⌝ }
 {
     let op = byte_at(image, m.code + p);
@@ -346,15 +335,16 @@ pub fn flow_at(
     match row {
         Row::Unfit => Flow::Fault,
         Row::Next(n, e) => {
-            if is_jump(op) {
+            let kind = kind_of(kinds, op);
+            if kind == PLAIN {
+                return Flow::To(n, e);
+            }
+            if kind == JUMP {
                 let t = target_at(image, m.code + (p + 1), op, p + 1);
                 return jump(op, t, n, e);
             }
-            if ends(op) {
+            if kind == LAST {
                 return Flow::Ends;
-            }
-            if is_plain(op) {
-                return Flow::To(n, e);
             }
             let b = byte_at(image, m.code + (p + 1));
             let c = byte_at(image, m.code + (p + 2));

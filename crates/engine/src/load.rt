@@ -16,6 +16,7 @@ fn check_all(image: &[u8], program: Program, map: &mut [u8]) -> bool
     let sizes = mcode::opcode::LENGTH;
     let takes = mcode::opcode::TAKEN;
     let leaves = mcode::opcode::LEFT;
+    let kinds = depths::kinds::KIND;
     let records = depths::records::records_of(program);
     let procs = records.procs;
     let tables = records.tables;
@@ -39,6 +40,7 @@ fn check_all(image: &[u8], program: Program, map: &mut [u8]) -> bool
             &sizes,
             &takes,
             &leaves,
+            &kinds,
         );
         if !ok {
             depths::blank(&mut map[0..size]);

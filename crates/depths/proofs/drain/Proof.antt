@@ -13,11 +13,11 @@ use Rattle.depths.proofs.drain.Statement.{statement}
 use Rattle.depths.proofs.drain.Tie as tie
 
 abbrev Inv-loop : tie.InvT-loop
-Inv-loop image map₀ work₀ until count procs tables m sizes takes leaves h₀ turn₀ map work h turn =
+Inv-loop image map₀ work₀ until count procs tables m sizes takes leaves kinds h₀ turn₀ map work h turn =
     Going (depthsOf image count procs tables m) map work h turn × (length map ≡ length map₀) × (length work ≡ length work₀)
 
 abbrev μ-loop : tie.MeasureT-loop
-μ-loop image map₀ work₀ until count procs tables m sizes takes leaves h₀ turn₀ map work h turn = length work - h
+μ-loop image map₀ work₀ until count procs tables m sizes takes leaves kinds h₀ turn₀ map work h turn = length work - h
 
 abbrev A-of : tie.Start Inv-loop μ-loop → Analysis
 A-of s = depthsOf (s .args .image .now) (s .args .count) (s .args .procs .now) (s .args .tables .now) (s .args .m)

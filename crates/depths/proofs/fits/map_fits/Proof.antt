@@ -4,6 +4,7 @@ use Prim.Native.Nat.{_-_, _≤_}
 use lib.ListN.{length}
 use borrow.Author.Tests.{not-true, not-false}
 use Rattle.mcode.specs.Opcode.{lengths, takens, lefts}
+use Rattle.depths.specs.Cases.{kindOf, kindsFrom, kinds}
 use Rattle.depths.proofs.Parts.{length-part}
 use Rattle.depths.proofs.Same.{placed}
 use Rattle.depths.proofs.Whole.{from, to, Tested, none-tested, part-tested, gap-fails, part-fails, more-tested, rest-decides}
@@ -13,10 +14,10 @@ use Rattle.depths.proofs.fits.map_fits.Statement.{statement}
 use Rattle.depths.proofs.fits.map_fits.Tie as tie
 
 abbrev Inv-loop : tie.InvT-loop
-Inv-loop image map program sizes takes leaves procs tables n at₀ k₀ at k = Tested image program map k at
+Inv-loop image map program sizes takes leaves kinds procs tables n at₀ k₀ at k = Tested image program map k at
 
 abbrev μ-loop : tie.MeasureT-loop
-μ-loop image map program sizes takes leaves procs tables n at₀ k₀ at k = n - k
+μ-loop image map program sizes takes leaves kinds procs tables n at₀ k₀ at k = n - k
 
 -- the code of the module whose turn it is ends in the image
 ends-in : (c : tie.In-loop Inv-loop μ-loop) → let s = c .before .before .before .before .before .before .before in
@@ -60,26 +61,27 @@ part-part-fits-end : tie.Need-part-part-fits-end Inv-loop μ-loop
 part-part-fits-end c = omega (arith, ends-in ((c .before .before .before .before)), c .before .before .before .before .before .before .before .before .before .before .before .pre .1)
 
 part-fits-requires : tie.Need-part-fits-requires Inv-loop μ-loop
-unfolding lengths takens lefts
+unfolding lengths takens lefts kindOf kindsFrom kinds
 part-fits-requires c κs =
-    let P = c .before .before .before .before .before .before .before .before .before .before .before .before .before .before .before .before .before .args .t2 in
-    let k = c .before .before .before .before .before .before .before .before .before .before .before .loop .k in
-    let long : to P k ≤ length (c .before .before .before .before .before .before .before .before .before .before .before .before .before .before .before .before .before .args .map .now) = omega (arith, ends-in ((c .before .before .before .before .before .before .before .before .before .before)), c .before .before .before .before .before .before .before .before .before .before .before .before .before .before .before .before .before .pre .1) in (
+    let P = c .before .before .before .before .before .before .before .before .before .before .before .before .before .before .before .before .before .before .args .t2 in
+    let k = c .before .before .before .before .before .before .before .before .before .before .before .before .loop .k in
+    let long : to P k ≤ length (c .before .before .before .before .before .before .before .before .before .before .before .before .before .before .before .before .before .before .args .map .now) = omega (arith, ends-in ((c .before .before .before .before .before .before .before .before .before .before .before)), c .before .before .before .before .before .before .before .before .before .before .before .before .before .before .before .before .before .before .pre .1) in (
       record {
-        sound = c .before .before .before .before .before .before .before .before .before .before .before .before .before .before .before .before .before .pre .0 .laid .sound k (c .before .before .before .before .before .before .before .before .before .before .loop-test .taken);
-        placed = placed (c .before .before .before .before .before .before .before .before .before .before .before .before .before .before .before .before .before .args .image .now) P _ _ (c .before .before .before .before .before .before .before .before .before .before .before .before .before .before .records-of .ensures) (c .before .before .before .before .before .before .before .before .before .before .before .before .before .before .before .before .before .pre .0);
+        sound = c .before .before .before .before .before .before .before .before .before .before .before .before .before .before .before .before .before .before .pre .0 .laid .sound k (c .before .before .before .before .before .before .before .before .before .before .before .loop-test .taken);
+        placed = placed (c .before .before .before .before .before .before .before .before .before .before .before .before .before .before .before .before .before .before .args .image .now) P _ _ (c .before .before .before .before .before .before .before .before .before .before .before .before .before .before .before .records-of .ensures) (c .before .before .before .before .before .before .before .before .before .before .before .before .before .before .before .before .before .before .pre .0);
         sizes-are = refl;
         takes-are = refl;
         leaves-are = refl;
+        kinds-are = refl;
       },
-      length-part (c .before .before .before .before .before .before .before .before .before .before .before .before .before .before .before .before .before .args .map .now) (from P k) (to P k) long ∙ omega arith,
+      length-part (c .before .before .before .before .before .before .before .before .before .before .before .before .before .before .before .before .before .before .args .map .now) (from P k) (to P k) long ∙ omega arith,
     )
 
 returns-2 : tie.Need-returns-2 Inv-loop μ-loop
 returns-2 c =
-    let l = c .before .before .before .before .before .before .before .before .before .before .before .before .before .loop in
-    sym (part-fails (c .before .before .before .before .before .before .before .before .before .before .before .before .before .before .before .before .before .before .before .args .image .now) (c .before .before .before .before .before .before .before .before .before .before .before .before .before .before .before .before .before .before .before .args .t2) (c .before .before .before .before .before .before .before .before .before .before .before .before .before .before .before .before .before .before .before .args .map .now) (c .before .before .before .before .before .before .before .before .before .before .before .before .before .before .before .before .before .before .before .pre .0) (l .k) (l .at) (l .inv) (c .before .before .before .before .before .before .before .before .before .before .before .before .loop-test .taken)
-    (sym (part-tested (c .before .before .before .before .before .before .before .before .before .before .before .before .before .before .before .before .before .before .before .args .image .now) (c .before .before .before .before .before .before .before .before .before .before .before .before .before .before .before .before .before .before .before .args .t2) (c .before .before .before .before .before .before .before .before .before .before .before .before .before .before .before .before .before .before .before .args .map .now) _ _ (c .before .before .before .before .before .before .before .before .before .before .before .before .before .before .before .before .records-of .ensures) (l .k))
+    let l = c .before .before .before .before .before .before .before .before .before .before .before .before .before .before .loop in
+    sym (part-fails (c .before .before .before .before .before .before .before .before .before .before .before .before .before .before .before .before .before .before .before .before .args .image .now) (c .before .before .before .before .before .before .before .before .before .before .before .before .before .before .before .before .before .before .before .before .args .t2) (c .before .before .before .before .before .before .before .before .before .before .before .before .before .before .before .before .before .before .before .before .args .map .now) (c .before .before .before .before .before .before .before .before .before .before .before .before .before .before .before .before .before .before .before .before .pre .0) (l .k) (l .at) (l .inv) (c .before .before .before .before .before .before .before .before .before .before .before .before .before .loop-test .taken)
+    (sym (part-tested (c .before .before .before .before .before .before .before .before .before .before .before .before .before .before .before .before .before .before .before .before .args .image .now) (c .before .before .before .before .before .before .before .before .before .before .before .before .before .before .before .before .before .before .before .before .args .t2) (c .before .before .before .before .before .before .before .before .before .before .before .before .before .before .before .before .before .before .before .before .args .map .now) _ _ (c .before .before .before .before .before .before .before .before .before .before .before .before .before .before .before .before .before .records-of .ensures) (l .k))
     ∙ sym (c .before .part-fits .ensures) ∙ not-true (c .before .part-fits .result) (c .if2 .taken)))
 
 add-k : tie.Need-add-k Inv-loop μ-loop
@@ -90,10 +92,10 @@ loop-less c = search needs
 
 loop-again : tie.Need-loop-again Inv-loop μ-loop
 loop-again c =
-    let l = c .before .before .before .before .before .before .before .before .before .before .before .before .before .loop in
-    more-tested (c .before .before .before .before .before .before .before .before .before .before .before .before .before .before .before .before .before .before .before .args .image .now) (c .before .before .before .before .before .before .before .before .before .before .before .before .before .before .before .before .before .before .before .args .t2) (c .before .before .before .before .before .before .before .before .before .before .before .before .before .before .before .before .before .before .before .args .map .now) (c .before .before .before .before .before .before .before .before .before .before .before .before .before .before .before .before .before .before .before .pre .0) (l .k) (l .at) (l .inv) (c .before .before .before .before .before .before .before .before .before .before .before .before .loop-test .taken)
-    (sym (c .before .before .before .before .before .before .before .before .before .unmarked .ensures) ∙ not-false (c .before .before .before .before .before .before .before .before .before .unmarked .result) (c .before .before .before .before .before .before .before .before .if1 .left))
-    (sym (part-tested (c .before .before .before .before .before .before .before .before .before .before .before .before .before .before .before .before .before .before .before .args .image .now) (c .before .before .before .before .before .before .before .before .before .before .before .before .before .before .before .before .before .before .before .args .t2) (c .before .before .before .before .before .before .before .before .before .before .before .before .before .before .before .before .before .before .before .args .map .now) _ _ (c .before .before .before .before .before .before .before .before .before .before .before .before .before .before .before .before .records-of .ensures) (l .k))
+    let l = c .before .before .before .before .before .before .before .before .before .before .before .before .before .before .loop in
+    more-tested (c .before .before .before .before .before .before .before .before .before .before .before .before .before .before .before .before .before .before .before .before .args .image .now) (c .before .before .before .before .before .before .before .before .before .before .before .before .before .before .before .before .before .before .before .before .args .t2) (c .before .before .before .before .before .before .before .before .before .before .before .before .before .before .before .before .before .before .before .before .args .map .now) (c .before .before .before .before .before .before .before .before .before .before .before .before .before .before .before .before .before .before .before .before .pre .0) (l .k) (l .at) (l .inv) (c .before .before .before .before .before .before .before .before .before .before .before .before .before .loop-test .taken)
+    (sym (c .before .before .before .before .before .before .before .before .before .before .unmarked .ensures) ∙ not-false (c .before .before .before .before .before .before .before .before .before .before .unmarked .result) (c .before .before .before .before .before .before .before .before .before .if1 .left))
+    (sym (part-tested (c .before .before .before .before .before .before .before .before .before .before .before .before .before .before .before .before .before .before .before .before .args .image .now) (c .before .before .before .before .before .before .before .before .before .before .before .before .before .before .before .before .before .before .before .before .args .t2) (c .before .before .before .before .before .before .before .before .before .before .before .before .before .before .before .before .before .before .before .before .args .map .now) _ _ (c .before .before .before .before .before .before .before .before .before .before .before .before .before .before .before .before .before .records-of .ensures) (l .k))
     ∙ sym (c .before .part-fits .ensures) ∙ not-false (c .before .part-fits .result) (c .if2 .left))
 
 unmarked-requires-2 : tie.Need-unmarked-requires-2 Inv-loop μ-loop

@@ -16,11 +16,11 @@ use Rattle.depths.proofs.fits.marks_fit.Statement.{statement}
 use Rattle.depths.proofs.fits.marks_fit.Tie as tie
 
 abbrev Inv-loop : tie.InvT-loop
-Inv-loop image code map count procs tables m sizes takes leaves p₀ p =
+Inv-loop image code map count procs tables m sizes takes leaves kinds p₀ p =
     (p ≤ length map) × ((j : ℕ) → j < p → markFits (depthsOf image count procs tables m) map j ≡ true)
 
 abbrev μ-loop : tie.MeasureT-loop
-μ-loop image code map count procs tables m sizes takes leaves p₀ p = length map - p
+μ-loop image code map count procs tables m sizes takes leaves kinds p₀ p = length map - p
 
 loop-holds : tie.Need-loop-holds Inv-loop μ-loop
 loop-holds c = (omega arith, below-none _)

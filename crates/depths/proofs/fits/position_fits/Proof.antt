@@ -4,7 +4,7 @@ use Prim.Native.Nat.{_+_}
 use lib.ListN.{length, length-drop}
 use Rattle.depths.specs.Lent.{lightOf}
 use Rattle.depths.specs.Test.{followedIn}
-use Rattle.depths.proofs.Flows.{flow-unfit, flow-next, flow-jump, flow-ends, flow-plain, code-byte}
+use Rattle.depths.proofs.Flows.{kind-other, flow-unfit, flow-next, flow-jump, flow-ends, flow-plain, code-byte}
 use native.Mathlib.Omega.{arith}
 use borrow.Author.Needs.{needs}
 use Rattle.depths.proofs.fits.position_fits.Statement.{statement}
@@ -22,17 +22,29 @@ enum-told c = search needs
 enum-known-row : tie.Need-enum-known-row
 enum-known-row c = search needs
 
-is-jump-requires : tie.Need-is-jump-requires
-is-jump-requires c κs = search needs
+kind-of-requires : tie.Need-kind-of-requires
+kind-of-requires c κs = c .before .before .before .before .before .before .before .before .pre .1 .kinds-are
+
+has-mark-requires : tie.Need-has-mark-requires
+has-mark-requires c κs = search needs
+
+returns : tie.Need-returns
+returns c =
+    let a = c .before .before .before .before .before .before .before .before .before .before .before .args in
+    let f = lightOf (a .count) (a .procs .now) (a .tables .now) in
+    let z = c .before .before .before .before .before .before .before .before .before .before .before .pre .0 .2 in
+    let o = code-byte (a .image .now) (a .code .now) (a .m .code) (a .p) _ z refl in
+    let q = sym (c .before .before .before .before .before .before .row-at .ensures) ∙ c .before .before .before .before .row .given .1 in
+    c .has-mark .ensures ∙ sym (ap (followedIn (a .map .now)) (flow-plain (a .image .now) f (a .m) (a .p) (a .d) _ _ o (c .before .before .before .before .before .before .before .before .before .before .before .pre .0 .1) _ _ q (sym (c .before .before .kind-of .ensures) ∙ c .before .if1 .taken)))
 
 add-target-at : tie.Need-add-target-at
-add-target-at c = omega (arith, c .before .before .before .before .before .before .before .before .before .before .pre .0 .0, c .before .before .before .before .before .before .before .before .before .before .pre .1 .sound .short)
+add-target-at c = omega (arith, c .before .before .before .before .before .before .before .before .before .before .before .pre .0 .0, c .before .before .before .before .before .before .before .before .before .before .before .pre .1 .sound .short)
 
 add-target-at-2 : tie.Need-add-target-at-2
-add-target-at-2 c = omega (arith, c .before .before .before .before .before .before .before .before .before .before .pre .0 .0, c .before .before .before .before .before .before .before .before .before .before .pre .1 .sound .short)
+add-target-at-2 c = omega (arith, c .before .before .before .before .before .before .before .before .before .before .before .pre .0 .0, c .before .before .before .before .before .before .before .before .before .before .before .pre .1 .sound .short)
 
 target-at-requires : tie.Need-target-at-requires
-target-at-requires c κs = (omega (arith, c .before .before .before .before .before .before .before .before .before .before .pre .0 .0, c .before .before .before .before .before .before .before .before .before .before .pre .1 .sound .short), omega (arith, c .before .before .before .before .before .before .before .before .before .before .pre .0 .0, c .before .before .before .before .before .before .before .before .before .before .pre .1 .sound .short))
+target-at-requires c κs = (omega (arith, c .before .before .before .before .before .before .before .before .before .before .before .pre .0 .0, c .before .before .before .before .before .before .before .before .before .before .before .pre .1 .sound .short), omega (arith, c .before .before .before .before .before .before .before .before .before .before .before .pre .0 .0, c .before .before .before .before .before .before .before .before .before .before .before .pre .1 .sound .short))
 
 jump-requires : tie.Need-jump-requires
 jump-requires c κs = search needs
@@ -40,58 +52,42 @@ jump-requires c κs = search needs
 follows-requires : tie.Need-follows-requires
 follows-requires c κs = search needs
 
-returns : tie.Need-returns
-returns c =
-    let a = c .before .before .before .before .before .before .before .before .before .before .before .before .before .args in
-    let f = lightOf (a .count) (a .procs .now) (a .tables .now) in
-    let z = c .before .before .before .before .before .before .before .before .before .before .before .before .before .pre .0 .2 in
-    let o = code-byte (a .image .now) (a .code .now) (a .m .code) (a .p) _ z refl in
-    let q = sym (c .before .before .before .before .before .before .before .before .row-at .ensures) ∙ c .before .before .before .before .before .before .row .given .1 in
-    let x = code-byte (a .image .now) (a .code .now) (a .m .code) (a .p + 1) (a .m .code + (a .p + 1)) z refl in
-    let y = code-byte (a .image .now) (a .code .now) (a .m .code) (a .p + 1 + 1) (a .m .code + (a .p + 2)) z (omega arith) in
-    c .follows .ensures ∙ ap (followedIn (a .map .now)) (c .before .jump .ensures ∙ sym (flow-jump (a .image .now) f (a .m) (a .p) (a .d) _ _ o (c .before .before .before .before .before .before .before .before .before .before .before .before .before .pre .0 .1) _ _ q (sym (c .before .before .before .before .is-jump .ensures) ∙ c .before .before .before .if1 .taken) _ _ _ (c .before .before .target-at .ensures) x y))
-
-ends-requires : tie.Need-ends-requires
-ends-requires c κs = search needs
-
 returns-2 : tie.Need-returns-2
 returns-2 c =
+    let a = c .before .before .before .before .before .before .before .before .before .before .before .before .before .before .args in
+    let f = lightOf (a .count) (a .procs .now) (a .tables .now) in
+    let z = c .before .before .before .before .before .before .before .before .before .before .before .before .before .before .pre .0 .2 in
+    let o = code-byte (a .image .now) (a .code .now) (a .m .code) (a .p) _ z refl in
+    let q = sym (c .before .before .before .before .before .before .before .before .before .row-at .ensures) ∙ c .before .before .before .before .before .before .before .row .given .1 in
+    let x = code-byte (a .image .now) (a .code .now) (a .m .code) (a .p + 1) (a .m .code + (a .p + 1)) z refl in
+    let y = code-byte (a .image .now) (a .code .now) (a .m .code) (a .p + 1 + 1) (a .m .code + (a .p + 2)) z (omega arith) in
+    c .follows .ensures ∙ ap (followedIn (a .map .now)) (c .before .jump .ensures ∙ sym (flow-jump (a .image .now) f (a .m) (a .p) (a .d) _ _ o (c .before .before .before .before .before .before .before .before .before .before .before .before .before .before .pre .0 .1) _ _ q (sym (c .before .before .before .before .before .kind-of .ensures) ∙ c .before .before .before .if2 .taken) _ _ _ (c .before .before .target-at .ensures) x y))
+
+returns-3 : tie.Need-returns-3
+returns-3 c =
     let a = c .before .before .before .before .before .before .before .before .before .before .before .before .args in
     let f = lightOf (a .count) (a .procs .now) (a .tables .now) in
     let z = c .before .before .before .before .before .before .before .before .before .before .before .before .pre .0 .2 in
     let o = code-byte (a .image .now) (a .code .now) (a .m .code) (a .p) _ z refl in
     let q = sym (c .before .before .before .before .before .before .before .row-at .ensures) ∙ c .before .before .before .before .before .row .given .1 in
-    sym (ap (followedIn (a .map .now)) (flow-ends (a .image .now) f (a .m) (a .p) (a .d) _ _ o (c .before .before .before .before .before .before .before .before .before .before .before .before .pre .0 .1) _ _ q (sym (c .before .ends .ensures) ∙ c .if2 .taken)))
-
-is-plain-requires : tie.Need-is-plain-requires
-is-plain-requires c κs = search needs
-
-has-mark-requires : tie.Need-has-mark-requires
-has-mark-requires c κs = search needs
-
-returns-3 : tie.Need-returns-3
-returns-3 c =
-    let a = c .before .before .before .before .before .before .before .before .before .before .before .before .before .before .before .args in
-    let f = lightOf (a .count) (a .procs .now) (a .tables .now) in
-    let z = c .before .before .before .before .before .before .before .before .before .before .before .before .before .before .before .pre .0 .2 in
-    let o = code-byte (a .image .now) (a .code .now) (a .m .code) (a .p) _ z refl in
-    let q = sym (c .before .before .before .before .before .before .before .before .before .before .row-at .ensures) ∙ c .before .before .before .before .before .before .before .before .row .given .1 in
-    c .has-mark .ensures ∙ sym (ap (followedIn (a .map .now)) (flow-plain (a .image .now) f (a .m) (a .p) (a .d) _ _ o (c .before .before .before .before .before .before .before .before .before .before .before .before .before .before .before .pre .0 .1) _ _ q (sym (c .before .before .before .before .before .before .is-jump .ensures) ∙ c .before .before .before .before .before .if1 .left) (sym (c .before .before .before .before .ends .ensures) ∙ c .before .before .before .if2 .left) (sym (c .before .before .is-plain .ensures) ∙ c .before .if3 .taken)))
+    sym (ap (followedIn (a .map .now)) (flow-ends (a .image .now) f (a .m) (a .p) (a .d) _ _ o (c .before .before .before .before .before .before .before .before .before .before .before .before .pre .0 .1) _ _ q (sym (c .before .before .before .kind-of .ensures) ∙ c .if3 .taken)))
 
 add-byte-at : tie.Need-add-byte-at
-add-byte-at c = omega (arith, c .before .before .before .before .before .before .before .before .before .before .before .before .before .before .pre .0 .0, c .before .before .before .before .before .before .before .before .before .before .before .before .before .before .pre .1 .sound .short)
+add-byte-at c = omega (arith, c .before .before .before .before .before .before .before .before .before .before .before .before .pre .0 .0, c .before .before .before .before .before .before .before .before .before .before .before .before .pre .1 .sound .short)
 
 byte-at-requires : tie.Need-byte-at-requires
 byte-at-requires c κs = search needs
 
 add-byte-at-2 : tie.Need-add-byte-at-2
-add-byte-at-2 c = omega (arith, c .before .before .before .before .before .before .before .before .before .before .before .before .before .before .before .pre .0 .0, c .before .before .before .before .before .before .before .before .before .before .before .before .before .before .before .pre .1 .sound .short)
+add-byte-at-2 c = omega (arith, c .before .before .before .before .before .before .before .before .before .before .before .before .before .pre .0 .0, c .before .before .before .before .before .before .before .before .before .before .before .before .before .pre .1 .sound .short)
 
 byte-at-requires-2 : tie.Need-byte-at-requires-2
 byte-at-requires-2 c κs = search needs
 
 onward-at-requires : tie.Need-onward-at-requires
-onward-at-requires c κs = ((sym (c .before .before .before .before .before .before .before .is-jump .ensures) ∙ c .before .before .before .before .before .before .if1 .left, sym (c .before .before .before .before .before .ends .ensures) ∙ c .before .before .before .before .if2 .left, sym (c .before .before .before .is-plain .ensures) ∙ c .before .before .if3 .left), (c .before .before .before .before .before .before .before .before .before .before .before .before .before .before .before .before .pre .1 .sound .near, c .before .before .before .before .before .before .before .before .before .before .before .before .before .before .before .before .pre .1 .placed))
+onward-at-requires c κs =
+    let k = c .before .before .before .before .before .kind-of .ensures in
+    (kind-other _ (λ z. c .before .before .before .before .if1 .left (k ∙ z)) (λ z. c .before .before .before .if2 .left (k ∙ z)) (λ z. c .before .before .if3 .left (k ∙ z)), (c .before .before .before .before .before .before .before .before .before .before .before .before .before .before .pre .1 .sound .near, c .before .before .before .before .before .before .before .before .before .before .before .before .before .before .pre .1 .placed))
 
 follows-requires-2 : tie.Need-follows-requires-2
 follows-requires-2 c κs = search needs
@@ -104,14 +100,14 @@ returns-4 c =
 
 returns-5 : tie.Need-returns-5
 returns-5 c =
-    let a = c .before .before .before .before .before .before .before .before .before .before .before .before .before .before .before .before .before .before .args in
+    let a = c .before .before .before .before .before .before .before .before .before .before .before .before .before .before .before .before .args in
     let f = lightOf (a .count) (a .procs .now) (a .tables .now) in
-    let z = c .before .before .before .before .before .before .before .before .before .before .before .before .before .before .before .before .before .before .pre .0 .2 in
+    let z = c .before .before .before .before .before .before .before .before .before .before .before .before .before .before .before .before .pre .0 .2 in
     let o = code-byte (a .image .now) (a .code .now) (a .m .code) (a .p) _ z refl in
-    let q = sym (c .before .before .before .before .before .before .before .before .before .before .before .before .before .row-at .ensures) ∙ c .before .before .before .before .before .before .before .before .before .before .before .row .given .1 in
+    let q = sym (c .before .before .before .before .before .before .before .before .before .before .before .row-at .ensures) ∙ c .before .before .before .before .before .before .before .before .before .row .given .1 in
     let x = c .before .before .before .byte-at .ensures ∙ code-byte (a .image .now) (a .code .now) (a .m .code) (a .p + 1) (a .m .code + (a .p + 1)) z refl in
     let y = c .before .before .byte-at2 .ensures ∙ code-byte (a .image .now) (a .code .now) (a .m .code) (a .p + 2) (a .m .code + (a .p + 2)) z refl in
-    c .follows2 .ensures ∙ ap (followedIn (a .map .now)) (c .before .onward-at .ensures (a .p) ∙ sym (flow-next (a .image .now) f (a .m) (a .p) (a .d) _ _ o (c .before .before .before .before .before .before .before .before .before .before .before .before .before .before .before .before .before .before .pre .0 .1) _ _ q _ _ x y))
+    c .follows2 .ensures ∙ ap (followedIn (a .map .now)) (c .before .onward-at .ensures (a .p) ∙ sym (flow-next (a .image .now) f (a .m) (a .p) (a .d) _ _ o (c .before .before .before .before .before .before .before .before .before .before .before .before .before .before .before .before .pre .0 .1) _ _ q _ _ x y))
 
 pub position-fits-spec : {M : Type 1} → statement M
 position-fits-spec =
@@ -121,17 +117,15 @@ position-fits-spec =
     row-at-requires
     enum-told
     enum-known-row
-    is-jump-requires
+    kind-of-requires
+    has-mark-requires
+    returns
     add-target-at
     add-target-at-2
     target-at-requires
     jump-requires
     follows-requires
-    returns
-    ends-requires
     returns-2
-    is-plain-requires
-    has-mark-requires
     returns-3
     add-byte-at
     byte-at-requires

@@ -3,7 +3,7 @@ use mathlib.Core.Path.{_≡_, refl, sym, ap, _∙_}
 use Prim.Native.Nat.{_+_}
 use Rattle.mcode.specs.Word.{byte}
 use Rattle.depths.specs.Lent.{lightOf}
-use Rattle.depths.proofs.Flows.{flow-unfit, flow-next, flow-jump, flow-ends, flow-plain}
+use Rattle.depths.proofs.Flows.{kind-other, flow-unfit, flow-next, flow-jump, flow-ends, flow-plain}
 use native.Mathlib.Omega.{arith}
 use borrow.Author.Needs.{needs}
 use Rattle.depths.proofs.rules.flow_at.Statement.{statement}
@@ -27,8 +27,16 @@ enum-told c = search needs
 enum-known-row : tie.Need-enum-known-row
 enum-known-row c = search needs
 
-is-jump-requires : tie.Need-is-jump-requires
-is-jump-requires c κs = search needs
+kind-of-requires : tie.Need-kind-of-requires
+kind-of-requires c κs = c .before .before .before .before .before .before .before .before .pre .1 .kinds-are
+
+returns : tie.Need-returns
+returns c =
+    let a = c .before .before .before .before .before .before .before .before .before .before .args in
+    let f = lightOf (a .count) (a .procs .now) (a .tables .now) in
+    let o = c .before .before .before .before .before .before .before .byte-at .ensures in
+    let q = sym (c .before .before .before .before .before .row-at .ensures) ∙ c .before .before .before .row .given .1 in
+    sym (flow-plain (a .image .now) f (a .m) (a .p) (a .d) (c .before .before .before .before .before .before .before .byte-at .result) (a .m .length) o refl _ _ q (sym (c .before .kind-of .ensures) ∙ c .if1 .taken))
 
 add-target-at : tie.Need-add-target-at
 add-target-at c = search needs
@@ -40,41 +48,27 @@ add-target-at-3 : tie.Need-add-target-at-3
 add-target-at-3 c = search needs
 
 target-at-requires : tie.Need-target-at-requires
-target-at-requires c κs = (omega (arith, c .before .before .before .before .before .before .before .before .before .before .before .pre .0, c .before .before .before .before .before .before .before .before .before .before .before .pre .1 .sound .within, c .before .before .before .before .before .before .before .before .before .before .before .pre .1 .placed .brief), omega (arith, c .before .before .before .before .before .before .before .before .before .before .before .pre .0, c .before .before .before .before .before .before .before .before .before .before .before .pre .1 .sound .short))
+target-at-requires c κs = (omega (arith, c .before .before .before .before .before .before .before .before .before .before .before .before .pre .0, c .before .before .before .before .before .before .before .before .before .before .before .before .pre .1 .sound .within, c .before .before .before .before .before .before .before .before .before .before .before .before .pre .1 .placed .brief), omega (arith, c .before .before .before .before .before .before .before .before .before .before .before .before .pre .0, c .before .before .before .before .before .before .before .before .before .before .before .before .pre .1 .sound .short))
 
 jump-requires : tie.Need-jump-requires
 jump-requires c κs = search needs
 
-returns : tie.Need-returns
-returns c =
-    let a = c .before .before .before .before .before .before .before .before .before .before .before .before .before .args in
-    let f = lightOf (a .count) (a .procs .now) (a .tables .now) in
-    let o = c .before .before .before .before .before .before .before .before .before .before .byte-at .ensures in
-    let q = sym (c .before .before .before .before .before .before .before .before .row-at .ensures) ∙ c .before .before .before .before .before .before .row .given .1 in
-    let y : byte (a .image .now) (a .m .code + (a .p + 1) + 1) ≡ byte (a .image .now) (a .m .code + (a .p + 2)) = ap (byte (a .image .now)) (omega arith) in
-    c .jump .ensures ∙ sym (flow-jump (a .image .now) f (a .m) (a .p) (a .d) (c .before .before .before .before .before .before .before .before .before .before .byte-at .result) (a .m .length) o refl _ _ q (sym (c .before .before .before .before .is-jump .ensures) ∙ c .before .before .before .if1 .taken) _ _ _ (c .before .target-at .ensures) refl y)
-
-ends-requires : tie.Need-ends-requires
-ends-requires c κs = search needs
-
 returns-2 : tie.Need-returns-2
 returns-2 c =
-    let a = c .before .before .before .before .before .before .before .before .before .before .before .before .args in
-    let f = lightOf (a .count) (a .procs .now) (a .tables .now) in
-    let o = c .before .before .before .before .before .before .before .before .before .byte-at .ensures in
-    let q = sym (c .before .before .before .before .before .before .before .row-at .ensures) ∙ c .before .before .before .before .before .row .given .1 in
-    sym (flow-ends (a .image .now) f (a .m) (a .p) (a .d) (c .before .before .before .before .before .before .before .before .before .byte-at .result) (a .m .length) o refl _ _ q (sym (c .before .ends .ensures) ∙ c .if2 .taken))
-
-is-plain-requires : tie.Need-is-plain-requires
-is-plain-requires c κs = search needs
-
-returns-3 : tie.Need-returns-3
-returns-3 c =
     let a = c .before .before .before .before .before .before .before .before .before .before .before .before .before .before .args in
     let f = lightOf (a .count) (a .procs .now) (a .tables .now) in
     let o = c .before .before .before .before .before .before .before .before .before .before .before .byte-at .ensures in
     let q = sym (c .before .before .before .before .before .before .before .before .before .row-at .ensures) ∙ c .before .before .before .before .before .before .before .row .given .1 in
-    sym (flow-plain (a .image .now) f (a .m) (a .p) (a .d) (c .before .before .before .before .before .before .before .before .before .before .before .byte-at .result) (a .m .length) o refl _ _ q (sym (c .before .before .before .before .before .is-jump .ensures) ∙ c .before .before .before .before .if1 .left) (sym (c .before .before .before .ends .ensures) ∙ c .before .before .if2 .left) (sym (c .before .is-plain .ensures) ∙ c .if3 .taken))
+    let y : byte (a .image .now) (a .m .code + (a .p + 1) + 1) ≡ byte (a .image .now) (a .m .code + (a .p + 2)) = ap (byte (a .image .now)) (omega arith) in
+    c .jump .ensures ∙ sym (flow-jump (a .image .now) f (a .m) (a .p) (a .d) (c .before .before .before .before .before .before .before .before .before .before .before .byte-at .result) (a .m .length) o refl _ _ q (sym (c .before .before .before .before .before .kind-of .ensures) ∙ c .before .before .before .if2 .taken) _ _ _ (c .before .target-at .ensures) refl y)
+
+returns-3 : tie.Need-returns-3
+returns-3 c =
+    let a = c .before .before .before .before .before .before .before .before .before .before .before .before .args in
+    let f = lightOf (a .count) (a .procs .now) (a .tables .now) in
+    let o = c .before .before .before .before .before .before .before .before .before .byte-at .ensures in
+    let q = sym (c .before .before .before .before .before .before .before .row-at .ensures) ∙ c .before .before .before .before .before .row .given .1 in
+    sym (flow-ends (a .image .now) f (a .m) (a .p) (a .d) (c .before .before .before .before .before .before .before .before .before .byte-at .result) (a .m .length) o refl _ _ q (sym (c .before .before .before .kind-of .ensures) ∙ c .if3 .taken))
 
 add-byte-at-2 : tie.Need-add-byte-at-2
 add-byte-at-2 c = search needs
@@ -89,13 +83,15 @@ add-byte-at-4 : tie.Need-add-byte-at-4
 add-byte-at-4 c = search needs
 
 add-byte-at-5 : tie.Need-add-byte-at-5
-add-byte-at-5 c = omega (arith, c .before .before .before .before .before .before .before .before .before .before .before .before .before .before .before .before .before .pre .0, c .before .before .before .before .before .before .before .before .before .before .before .before .before .before .before .before .before .pre .1 .sound .within, c .before .before .before .before .before .before .before .before .before .before .before .before .before .before .before .before .before .pre .1 .placed .brief)
+add-byte-at-5 c = omega (arith, c .before .before .before .before .before .before .before .before .before .before .before .before .before .before .before .pre .0, c .before .before .before .before .before .before .before .before .before .before .before .before .before .before .before .pre .1 .sound .within, c .before .before .before .before .before .before .before .before .before .before .before .before .before .before .before .pre .1 .placed .brief)
 
 byte-at-requires-3 : tie.Need-byte-at-requires-3
 byte-at-requires-3 c κs = search needs
 
 onward-at-requires : tie.Need-onward-at-requires
-onward-at-requires c κs = ((sym (c .before .before .before .before .before .before .before .before .before .is-jump .ensures) ∙ c .before .before .before .before .before .before .before .before .if1 .left, sym (c .before .before .before .before .before .before .before .ends .ensures) ∙ c .before .before .before .before .before .before .if2 .left, sym (c .before .before .before .before .before .is-plain .ensures) ∙ c .before .before .before .before .if3 .left), (c .before .before .before .before .before .before .before .before .before .before .before .before .before .before .before .before .before .before .pre .1 .sound .near, c .before .before .before .before .before .before .before .before .before .before .before .before .before .before .before .before .before .before .pre .1 .placed))
+onward-at-requires c κs =
+    let k = c .before .before .before .before .before .before .before .kind-of .ensures in
+    (kind-other _ (λ z. c .before .before .before .before .before .before .if1 .left (k ∙ z)) (λ z. c .before .before .before .before .before .if2 .left (k ∙ z)) (λ z. c .before .before .before .before .if3 .left (k ∙ z)), (c .before .before .before .before .before .before .before .before .before .before .before .before .before .before .before .before .pre .1 .sound .near, c .before .before .before .before .before .before .before .before .before .before .before .before .before .before .before .before .pre .1 .placed))
 
 returns-4 : tie.Need-returns-4
 returns-4 c =
@@ -104,11 +100,11 @@ returns-4 c =
 
 returns-5 : tie.Need-returns-5
 returns-5 c =
-    let a = c .before .before .before .before .before .before .before .before .before .before .before .before .before .before .before .before .before .before .before .args in
+    let a = c .before .before .before .before .before .before .before .before .before .before .before .before .before .before .before .before .before .args in
     let f = lightOf (a .count) (a .procs .now) (a .tables .now) in
-    let o = c .before .before .before .before .before .before .before .before .before .before .before .before .before .before .before .before .byte-at .ensures in
-    let q = sym (c .before .before .before .before .before .before .before .before .before .before .before .before .before .before .row-at .ensures) ∙ c .before .before .before .before .before .before .before .before .before .before .before .before .row .given .1 in
-    c .onward-at .ensures (a .p) ∙ sym (flow-next (a .image .now) f (a .m) (a .p) (a .d) (c .before .before .before .before .before .before .before .before .before .before .before .before .before .before .before .before .byte-at .result) (a .m .length) o refl _ _ q _ _ (c .before .before .before .byte-at2 .ensures) (c .before .byte-at3 .ensures))
+    let o = c .before .before .before .before .before .before .before .before .before .before .before .before .before .before .byte-at .ensures in
+    let q = sym (c .before .before .before .before .before .before .before .before .before .before .before .before .row-at .ensures) ∙ c .before .before .before .before .before .before .before .before .before .before .row .given .1 in
+    c .onward-at .ensures (a .p) ∙ sym (flow-next (a .image .now) f (a .m) (a .p) (a .d) (c .before .before .before .before .before .before .before .before .before .before .before .before .before .before .byte-at .result) (a .m .length) o refl _ _ q _ _ (c .before .before .before .byte-at2 .ensures) (c .before .byte-at3 .ensures))
 
 pub flow-at-spec : {M : Type 1} → statement M
 flow-at-spec =
@@ -120,16 +116,14 @@ flow-at-spec =
     row-at-requires
     enum-told
     enum-known-row
-    is-jump-requires
+    kind-of-requires
+    returns
     add-target-at
     add-target-at-2
     add-target-at-3
     target-at-requires
     jump-requires
-    returns
-    ends-requires
     returns-2
-    is-plain-requires
     returns-3
     add-byte-at-2
     add-byte-at-3

@@ -7,6 +7,7 @@ use borrow.Rule.Slice.PartMut.{putMid}
 use Rattle.mcode.specs.Opcode.{lengths, takens, lefts}
 use Rattle.mcode.specs.Image.{moduleOf}
 use Rattle.mcode.specs.Depths.{Analysis, Fewest, NoneFits, KeptPast}
+use Rattle.depths.specs.Cases.{kindOf, kindsFrom, kinds}
 use Rattle.depths.specs.Lent.{depthsOf}
 use Rattle.depths.proofs.Parts.{length-part}
 use Rattle.depths.proofs.Same.{depths-same, placed}
@@ -18,11 +19,11 @@ use Rattle.engine.proofs.load.check_all.Statement.{statement}
 use Rattle.engine.proofs.load.check_all.Tie as tie
 
 abbrev Inv-loop : tie.InvT-loop
-Inv-loop image map₀ program sizes takes leaves procs tables n size work₀ k₀ map work k =
+Inv-loop image map₀ program sizes takes leaves kinds procs tables n size work₀ k₀ map work k =
     Filled image program k map × KeptPast image map₀ map × (k ≤ n) × (length work ≡ 32767)
 
 abbrev μ-loop : tie.MeasureT-loop
-μ-loop image map₀ program sizes takes leaves procs tables n size work₀ k₀ map work k = n - k
+μ-loop image map₀ program sizes takes leaves kinds procs tables n size work₀ k₀ map work k = n - k
 
 -- what is at hand once the map is blank
 abbrev start : tie.After-blank Inv-loop μ-loop → tie.Start Inv-loop μ-loop
@@ -90,21 +91,22 @@ slice-aggregate-check : tie.Need-slice-aggregate-check Inv-loop μ-loop
 slice-aggregate-check c = sym (c .before .before .before .before .before .loop .inv .3)
 
 check-requires : tie.Need-check-requires Inv-loop μ-loop
-unfolding lengths takens lefts
+unfolding lengths takens lefts kindOf kindsFrom kinds
 check-requires c κs =
-    let P = c .before .before .before .before .before .before .before .before .before .before .before .before .before .before .before .before .before .before .before .before .args .t2 in
-    let k = c .before .before .before .before .before .before .before .before .before .before .loop .k in
-    let T = c .before .before .before .before .before .before .before .before .before .before .before .before .before .before .before .before .before .before .before .before .pre .0 in
-    let S = T .laid .sound k (c .before .before .before .before .before .before .before .before .before .loop-test .taken) in
-    let long : to P k ≤ length (c .before .before .before .before .before .before .before .before .before .before .loop .map) = omega (arith, ends-in ((c .before .before .before .before .before .before .before .before .before)), long-in ((c .before .before .before .before .before .before .before .before .before))) in (
+    let P = c .before .before .before .before .before .before .before .before .before .before .before .before .before .before .before .before .before .before .before .before .before .args .t2 in
+    let k = c .before .before .before .before .before .before .before .before .before .before .before .loop .k in
+    let T = c .before .before .before .before .before .before .before .before .before .before .before .before .before .before .before .before .before .before .before .before .before .pre .0 in
+    let S = T .laid .sound k (c .before .before .before .before .before .before .before .before .before .before .loop-test .taken) in
+    let long : to P k ≤ length (c .before .before .before .before .before .before .before .before .before .before .before .loop .map) = omega (arith, ends-in ((c .before .before .before .before .before .before .before .before .before .before)), long-in ((c .before .before .before .before .before .before .before .before .before .before))) in (
       record {
         sound = S;
-        placed = placed (c .before .before .before .before .before .before .before .before .before .before .before .before .before .before .before .before .before .before .before .before .args .image .now) P _ _ (c .before .before .before .before .before .before .before .before .before .before .before .before .before .before .before .before .before .records-of .ensures) T;
+        placed = placed (c .before .before .before .before .before .before .before .before .before .before .before .before .before .before .before .before .before .before .before .before .before .args .image .now) P _ _ (c .before .before .before .before .before .before .before .before .before .before .before .before .before .before .before .before .before .before .records-of .ensures) T;
         sizes-are = refl;
         takes-are = refl;
         leaves-are = refl;
+        kinds-are = refl;
       },
-      (length-part (c .before .before .before .before .before .before .before .before .before .before .loop .map) (from P k) (to P k) long ∙ omega arith, omega (arith, S .short, c .before .before .before .before .before .before .before .before .before .before .loop .inv .3)),
+      (length-part (c .before .before .before .before .before .before .before .before .before .before .before .loop .map) (from P k) (to P k) long ∙ omega arith, omega (arith, S .short, c .before .before .before .before .before .before .before .before .before .before .before .loop .inv .3)),
     )
 
 sub-blank-2 : tie.Need-sub-blank-2 Inv-loop μ-loop
@@ -119,50 +121,50 @@ part-blank-end-2 c = search needs
 blank-requires-2 : tie.Need-blank-requires-2 Inv-loop μ-loop
 blank-requires-2 c κs = search needs
 
-same-length : tie.Need-same-length Inv-loop μ-loop
-same-length c = search needs
-
 returns : tie.Need-returns Inv-loop μ-loop
 returns c =
-    let i = (c .before .before .before .before .before .before .before .before .before .before .before .before .before .before .before .before .before .before) in
-    let image = c .before .before .before .before .before .before .before .before .before .before .before .before .before .before .before .before .before .before .before .before .before .before .before .before .before .before .before .before .before .args .image .now in
-    let P = c .before .before .before .before .before .before .before .before .before .before .before .before .before .before .before .before .before .before .before .before .before .before .before .before .before .before .before .before .before .args .t2 in
-    let k = c .before .before .before .before .before .before .before .before .before .before .before .before .before .before .before .before .before .before .before .loop .k in
+    let i = (c .before .before .before .before .before .before .before .before .before .before .before .before .before .before .before .before .before .before .before) in
+    let image = c .before .before .before .before .before .before .before .before .before .before .before .before .before .before .before .before .before .before .before .before .before .before .before .before .before .before .before .before .before .before .args .image .now in
+    let P = c .before .before .before .before .before .before .before .before .before .before .before .before .before .before .before .before .before .before .before .before .before .before .before .before .before .before .before .before .before .before .args .t2 in
+    let k = c .before .before .before .before .before .before .before .before .before .before .before .before .before .before .before .before .before .before .before .before .loop .k in
     let ys = c .before .before .before .before .before .before .before .before .check .last .1 .0 in
-    let m₁ = putMid (from P k) (to P k - from P k) (c .before .before .before .before .before .before .before .before .before .before .before .before .before .before .before .before .before .before .before .loop .map) ys in
-    let K₁ = more-kept image P (c .before .before .before .before .before .before .before .before .before .before .before .before .before .before .before .before .before .before .before .before .before .before .before .before .before .before .before .before .before .pre .0) (c .before .before .before .before .before .before .before .before .before .before .before .before .before .before .before .before .before .before .before .loop .map) ys (long-in i) k (c .before .before .before .before .before .before .before .before .before .before .before .before .before .before .before .before .before .before .loop-test .taken) (c .before .before .before .before .before .before .before .before .check .kept .1 .0) in
+    let m₁ = putMid (from P k) (to P k - from P k) (c .before .before .before .before .before .before .before .before .before .before .before .before .before .before .before .before .before .before .before .before .loop .map) ys in
+    let K₁ = more-kept image P (c .before .before .before .before .before .before .before .before .before .before .before .before .before .before .before .before .before .before .before .before .before .before .before .before .before .before .before .before .before .before .pre .0) (c .before .before .before .before .before .before .before .before .before .before .before .before .before .before .before .before .before .before .before .before .loop .map) ys (long-in i) k (c .before .before .before .before .before .before .before .before .before .before .before .before .before .before .before .before .before .before .before .loop-test .taken) (c .before .before .before .before .before .before .before .before .check .kept .1 .0) in
     let h₂ : length image ≤ length m₁ = omega (arith, long-in i, K₁ .long) in
     let none : NoneFits (depthsOf image _ _ _ (moduleOf P k)) = (rw (not-true (c .before .before .before .before .before .before .before .before .check .result) (c .before .before .before .before .if1 .taken)) at (c .before .before .before .before .before .before .before .before .check .ensures)) .0 in
     record {
       unfit = k;
-      loaded = c .before .before .before .before .before .before .before .before .before .before .before .before .before .before .before .before .before .before .loop-test .taken;
-      none = subst NoneFits (depths-same image P _ _ (c .before .before .before .before .before .before .before .before .before .before .before .before .before .before .before .before .before .before .before .before .before .before .before .before .before .before .records-of .ensures) (moduleOf P k)) none;
+      loaded = c .before .before .before .before .before .before .before .before .before .before .before .before .before .before .before .before .before .before .before .loop-test .taken;
+      none = subst NoneFits (depths-same image P _ _ (c .before .before .before .before .before .before .before .before .before .before .before .before .before .before .before .before .before .before .before .before .before .before .before .before .before .before .before .records-of .ensures) (moduleOf P k)) none;
       blank = blank-marks image m₁ (c .before .before .blank2 .last .0) h₂ (c .before .before .blank2 .ensures);
-      kept = kept-trans image (c .before .before .before .before .before .before .before .before .before .before .before .before .before .before .before .before .before .before .before .before .before .before .before .before .before .before .before .before .before .args .map .now) _ _ (kept-blank ((c .before .before .before .before .before .before .before .before .before .before .before .before .before .before .before .before .before .before .before .before .before .before)))
-          (kept-trans image _ (c .before .before .before .before .before .before .before .before .before .before .before .before .before .before .before .before .before .before .before .loop .map) _ (c .before .before .before .before .before .before .before .before .before .before .before .before .before .before .before .before .before .before .before .loop .inv .1)
-          (kept-trans image (c .before .before .before .before .before .before .before .before .before .before .before .before .before .before .before .before .before .before .before .loop .map) m₁ _ K₁ (blank-kept image m₁ (c .before .before .blank2 .last .0) h₂ (c .before .before .blank2 .ensures))));
+      kept = kept-trans image (c .before .before .before .before .before .before .before .before .before .before .before .before .before .before .before .before .before .before .before .before .before .before .before .before .before .before .before .before .before .before .args .map .now) _ _ (kept-blank ((c .before .before .before .before .before .before .before .before .before .before .before .before .before .before .before .before .before .before .before .before .before .before .before)))
+          (kept-trans image _ (c .before .before .before .before .before .before .before .before .before .before .before .before .before .before .before .before .before .before .before .before .loop .map) _ (c .before .before .before .before .before .before .before .before .before .before .before .before .before .before .before .before .before .before .before .before .loop .inv .1)
+          (kept-trans image (c .before .before .before .before .before .before .before .before .before .before .before .before .before .before .before .before .before .before .before .before .loop .map) m₁ _ K₁ (blank-kept image m₁ (c .before .before .blank2 .last .0) h₂ (c .before .before .blank2 .ensures))));
     }
 
+same-length : tie.Need-same-length Inv-loop μ-loop
+same-length c = returns c .kept .long
+
 add-k : tie.Need-add-k Inv-loop μ-loop
-add-k c = search needs
+add-k c = omega (arith, c .before .before .before .before .before .before .before .before .before .before .before .before .before .before .before .loop-test .taken, c .before .before .before .before .before .before .before .before .before .before .before .before .before .before .before .before .before .before .before .before .before .before .before .before .before .before .pre .0 .small)
 
 loop-less : tie.Need-loop-less Inv-loop μ-loop
 loop-less c = search needs
 
 loop-again : tie.Need-loop-again Inv-loop μ-loop
 loop-again c =
-    let i = (c .before .before .before .before .before .before .before .before .before .before .before .before .before .before) in
-    let image = c .before .before .before .before .before .before .before .before .before .before .before .before .before .before .before .before .before .before .before .before .before .before .before .before .before .args .image .now in
-    let P = c .before .before .before .before .before .before .before .before .before .before .before .before .before .before .before .before .before .before .before .before .before .before .before .before .before .args .t2 in
-    let k = c .before .before .before .before .before .before .before .before .before .before .before .before .before .before .before .loop .k in
+    let i = (c .before .before .before .before .before .before .before .before .before .before .before .before .before .before .before) in
+    let image = c .before .before .before .before .before .before .before .before .before .before .before .before .before .before .before .before .before .before .before .before .before .before .before .before .before .before .args .image .now in
+    let P = c .before .before .before .before .before .before .before .before .before .before .before .before .before .before .before .before .before .before .before .before .before .before .before .before .before .before .args .t2 in
+    let k = c .before .before .before .before .before .before .before .before .before .before .before .before .before .before .before .before .loop .k in
     let ys = c .before .before .before .before .check .last .1 .0 in
-    let K₁ = more-kept image P (c .before .before .before .before .before .before .before .before .before .before .before .before .before .before .before .before .before .before .before .before .before .before .before .before .before .pre .0) (c .before .before .before .before .before .before .before .before .before .before .before .before .before .before .before .loop .map) ys (long-in i) k (c .before .before .before .before .before .before .before .before .before .before .before .before .before .before .loop-test .taken) (c .before .before .before .before .check .kept .1 .0) in
+    let K₁ = more-kept image P (c .before .before .before .before .before .before .before .before .before .before .before .before .before .before .before .before .before .before .before .before .before .before .before .before .before .before .pre .0) (c .before .before .before .before .before .before .before .before .before .before .before .before .before .before .before .before .loop .map) ys (long-in i) k (c .before .before .before .before .before .before .before .before .before .before .before .before .before .before .before .loop-test .taken) (c .before .before .before .before .check .kept .1 .0) in
     let few : Fewest (depthsOf image _ _ _ (moduleOf P k)) ys = rw (not-false (c .before .before .before .before .check .result) (c .if1 .left)) at (c .before .before .before .before .check .ensures) in (
-      more-filled image P (c .before .before .before .before .before .before .before .before .before .before .before .before .before .before .before .before .before .before .before .before .before .before .before .before .before .pre .0) (c .before .before .before .before .before .before .before .before .before .before .before .before .before .before .before .loop .map) ys (long-in i) k (c .before .before .before .before .before .before .before .before .before .before .before .before .before .before .loop-test .taken) (c .before .before .before .before .check .kept .1 .0) (c .before .before .before .before .before .before .before .before .before .before .before .before .before .before .before .loop .inv .0)
-          (subst (λ (Z : Analysis). Fewest Z ys) (depths-same image P _ _ (c .before .before .before .before .before .before .before .before .before .before .before .before .before .before .before .before .before .before .before .before .before .before .records-of .ensures) (moduleOf P k)) few),
-      kept-trans image _ (c .before .before .before .before .before .before .before .before .before .before .before .before .before .before .before .loop .map) _ (c .before .before .before .before .before .before .before .before .before .before .before .before .before .before .before .loop .inv .1) K₁,
-      omega (arith, c .before .before .before .before .before .before .before .before .before .before .before .before .before .before .loop-test .taken),
-      c .before .before .before .before .check .kept .1 .1 .0 ∙ c .before .before .before .before .before .before .before .before .before .before .before .before .before .before .before .loop .inv .3,
+      more-filled image P (c .before .before .before .before .before .before .before .before .before .before .before .before .before .before .before .before .before .before .before .before .before .before .before .before .before .before .pre .0) (c .before .before .before .before .before .before .before .before .before .before .before .before .before .before .before .before .loop .map) ys (long-in i) k (c .before .before .before .before .before .before .before .before .before .before .before .before .before .before .before .loop-test .taken) (c .before .before .before .before .check .kept .1 .0) (c .before .before .before .before .before .before .before .before .before .before .before .before .before .before .before .before .loop .inv .0)
+          (subst (λ (Z : Analysis). Fewest Z ys) (depths-same image P _ _ (c .before .before .before .before .before .before .before .before .before .before .before .before .before .before .before .before .before .before .before .before .before .before .before .records-of .ensures) (moduleOf P k)) few),
+      kept-trans image _ (c .before .before .before .before .before .before .before .before .before .before .before .before .before .before .before .before .loop .map) _ (c .before .before .before .before .before .before .before .before .before .before .before .before .before .before .before .before .loop .inv .1) K₁,
+      omega (arith, c .before .before .before .before .before .before .before .before .before .before .before .before .before .before .before .loop-test .taken),
+      c .before .before .before .before .check .kept .1 .1 .0 ∙ c .before .before .before .before .before .before .before .before .before .before .before .before .before .before .before .before .loop .inv .3,
     )
 
 same-length-2 : tie.Need-same-length-2 Inv-loop μ-loop

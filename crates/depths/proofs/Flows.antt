@@ -92,38 +92,38 @@ module _ (image : List ℕ) (program : Program) (m : Module) (p op b c n e : ℕ
         rw (h, j, no-module op (omega (arith, l)), le-ltb op 0o355 (omega (arith, l)), ne-eqb op 0o355 (λ z. omega (arith, l, z)))
         (one-call (leb op 0o360) (λ (i : ℕ). calls image m i n e) b (op - 0o360))
 
--- what the kind of an opcode says of its tests
+-- what a kind k says of the tests
 abbrev by-tests : Bool → Bool → Bool → ℕ
-by-tests j h q = pick j 1 (pick h 2 (pick q 0 3))
+by-tests j h q = pick j 1 (pick h 3 (pick q 2 4))
 
-of-plain : (j h q : Bool) → by-tests j h q ≡ 0 → (j ≡ false) × (h ≡ false) × (q ≡ true)
-of-plain true h q k = absurd (omega (arith, k))
-of-plain false true q k = absurd (omega (arith, k))
-of-plain false false true k = (refl, refl, refl)
-of-plain false false false k = absurd (omega (arith, k))
+module _ (k : ℕ) where
+  of-jump : (j h q : Bool) → k ≡ by-tests j h q → k ≤ 1 → j ≡ true
+  of-jump true h q e l = refl
+  of-jump false true q e l = absurd (omega (arith, e, l))
+  of-jump false false true e l = absurd (omega (arith, e, l))
+  of-jump false false false e l = absurd (omega (arith, e, l))
 
-of-jump : (j h q : Bool) → by-tests j h q ≡ 1 → j ≡ true
-of-jump true h q k = refl
-of-jump false true q k = absurd (omega (arith, k))
-of-jump false false true k = absurd (omega (arith, k))
-of-jump false false false k = absurd (omega (arith, k))
+  of-plain : (j h q : Bool) → k ≡ by-tests j h q → 1 < k → k ≤ 2 → (j ≡ false) × (h ≡ false) × (q ≡ true)
+  of-plain true h q e g l = absurd (omega (arith, e, g))
+  of-plain false true q e g l = absurd (omega (arith, e, l))
+  of-plain false false true e g l = (refl, refl, refl)
+  of-plain false false false e g l = absurd (omega (arith, e, l))
 
-of-last : (j h q : Bool) → by-tests j h q ≡ 2 → h ≡ true
-of-last true h q k = absurd (omega (arith, k))
-of-last false true q k = refl
-of-last false false true k = absurd (omega (arith, k))
-of-last false false false k = absurd (omega (arith, k))
+  of-last : (j h q : Bool) → k ≡ by-tests j h q → 2 < k → k ≤ 3 → h ≡ true
+  of-last true h q e g l = absurd (omega (arith, e, g))
+  of-last false true q e g l = refl
+  of-last false false true e g l = absurd (omega (arith, e, g))
+  of-last false false false e g l = absurd (omega (arith, e, l))
 
-of-other : (j h q : Bool) → (by-tests j h q ≡ 0 → ⊥) → (by-tests j h q ≡ 1 → ⊥) → (by-tests j h q ≡ 2 → ⊥)
-    → (j ≡ false) × (h ≡ false) × (q ≡ false)
-of-other true h q x y z = absurd (y refl)
-of-other false true q x y z = absurd (z refl)
-of-other false false true x y z = absurd (x refl)
-of-other false false false x y z = (refl, refl, refl)
+  of-other : (j h q : Bool) → k ≡ by-tests j h q → 3 < k → (j ≡ false) × (h ≡ false) × (q ≡ false)
+  of-other true h q e g = absurd (omega (arith, e, g))
+  of-other false true q e g = absurd (omega (arith, e, g))
+  of-other false false true e g = absurd (omega (arith, e, g))
+  of-other false false false e g = (refl, refl, refl)
 
-pub kind-other : (op : ℕ) → (kindOf op ≡ 0 → ⊥) → (kindOf op ≡ 1 → ⊥) → (kindOf op ≡ 2 → ⊥) → (jumping op ≡ false) × (ending op ≡ false) × (plain op ≡ false)
-unfolding kindOf
-kind-other op = of-other (jumping op) (ending op) (plain op)
+  pub kind-other : (op : ℕ) → k ≡ kindOf op → 3 < k → (jumping op ≡ false) × (ending op ≡ false) × (plain op ≡ false)
+  unfolding kindOf
+  kind-other op = of-other (jumping op) (ending op) (plain op)
 
 -- the table has the kind of every opcode
 kind-from : (i n k : ℕ) → k < n → getD (kindsFrom i n) k 0 ≡ kindOf (i + k)
@@ -162,21 +162,23 @@ module _ (image : List ℕ) (program : Program) (m : Module) (p d : ℕ) where
           → flowAt image program m p d ≡ onward image program m p op b c n e
       flow-next b c x y = by-row (Next n e) q ∙ cong3 (λ (t u v : ℕ). onward image program m p t u v n e) (sym o) (sym x) (sym y)
 
-      pub flow-jump : kindOf op ≡ 1 → (t b c : ℕ) → t ≡ target op (p + 1) b c → b ≡ codeByte image m (p + 1) → c ≡ codeByte image m (p + 2)
-          → flowAt image program m p d ≡ jumps op t n e
-      unfolding kindOf
-      flow-jump k t b c z x y =
-          flow-next b c x y ∙ onward-jump image program m p op b c n e (of-jump (jumping op) (ending op) (plain op) k) ∙ ap (λ (u : ℕ). jumps op u n e) (sym z)
+      module _ (k : ℕ) (x : k ≡ kindOf op) where
+        pub flow-jump : k ≤ 1 → (t b c : ℕ) → t ≡ target op (p + 1) b c → b ≡ codeByte image m (p + 1) → c ≡ codeByte image m (p + 2)
+            → flowAt image program m p d ≡ jumps op t n e
+        unfolding kindOf
+        flow-jump l t b c z y w =
+            flow-next b c y w ∙ onward-jump image program m p op b c n e (of-jump k (jumping op) (ending op) (plain op) x l)
+            ∙ ap (λ (u : ℕ). jumps op u n e) (sym z)
 
-      pub flow-ends : kindOf op ≡ 2 → flowAt image program m p d ≡ Ends
-      unfolding kindOf
-      flow-ends k = flow-next _ _ refl refl ∙ onward-ends image program m p op _ _ n e (of-last (jumping op) (ending op) (plain op) k)
+        pub flow-plain : 1 < k → k ≤ 2 → flowAt image program m p d ≡ To n e
+        unfolding kindOf
+        flow-plain g l =
+            let u = of-plain k (jumping op) (ending op) (plain op) x g l in
+            flow-next _ _ refl refl ∙ onward-plain image program m p op _ _ n e (u .0) (u .1) (u .2)
 
-      pub flow-plain : kindOf op ≡ 0 → flowAt image program m p d ≡ To n e
-      unfolding kindOf
-      flow-plain k =
-          let u = of-plain (jumping op) (ending op) (plain op) k in
-          flow-next _ _ refl refl ∙ onward-plain image program m p op _ _ n e (u .0) (u .1) (u .2)
+        pub flow-ends : 2 < k → k ≤ 3 → flowAt image program m p d ≡ Ends
+        unfolding kindOf
+        flow-ends g l = flow-next _ _ refl refl ∙ onward-ends image program m p op _ _ n e (of-last k (jumping op) (ending op) (plain op) x g l)
 
 -- the image from a on has its bytes
 pub code-byte : (image code : List ℕ) (a i k : ℕ) → code ≡ drop a image → a + i ≡ k → byte code i ≡ byte image k

@@ -33,9 +33,9 @@ ending op = or (eqb op 0o304) (eqb op 0o354)
 abbrev pub plain : ℕ → Bool
 plain op = pick (namesModule op) false (ltb op 0o355)
 
--- the kind of an opcode, by these tests: 0 has the next one as its only successor, 1 jumps, 2 has none, 3 names a module or is a call
+-- the kind of an opcode, by these tests: 1 jumps, 2 has the next one as its only successor, 3 has none, 4 names a module or is a call
 unfoldable pub kindOf : ℕ → ℕ
-kindOf op = pick (jumping op) 1 (pick (ending op) 2 (pick (plain op) 0 3))
+kindOf op = pick (jumping op) 1 (pick (ending op) 3 (pick (plain op) 2 4))
 
 -- the kinds of n opcodes from op on, and of all
 unfoldable pub kindsFrom : ℕ → ℕ → List ℕ

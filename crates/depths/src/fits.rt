@@ -98,15 +98,15 @@ fn position_fits(
         Row::Unfit => false,
         Row::Next(n, e) => {
             let kind = kind_of(kinds, op);
-            if kind == PLAIN {
-                return has_mark(map, n, e);
-            }
-            if kind == JUMP {
+            if kind <= JUMP {
                 let t = target_at(code, p + 1, op, p + 1);
                 let f = jump(op, t, n, e);
                 return follows(map, f);
             }
-            if kind == LAST {
+            if kind <= PLAIN {
+                return has_mark(map, n, e);
+            }
+            if kind <= LAST {
                 return true;
             }
             let b = byte_at(code, p + 1);

@@ -336,14 +336,14 @@ pub fn flow_at(
         Row::Unfit => Flow::Fault,
         Row::Next(n, e) => {
             let kind = kind_of(kinds, op);
-            if kind == PLAIN {
-                return Flow::To(n, e);
-            }
-            if kind == JUMP {
+            if kind <= JUMP {
                 let t = target_at(image, m.code + (p + 1), op, p + 1);
                 return jump(op, t, n, e);
             }
-            if kind == LAST {
+            if kind <= PLAIN {
+                return Flow::To(n, e);
+            }
+            if kind <= LAST {
                 return Flow::Ends;
             }
             let b = byte_at(image, m.code + (p + 1));

@@ -25,26 +25,14 @@ enum-known-row c = search needs
 kind-of-requires : tie.Need-kind-of-requires
 kind-of-requires c κs = c .before .before .before .before .before .before .before .before .pre .1 .kinds-are
 
-has-mark-requires : tie.Need-has-mark-requires
-has-mark-requires c κs = search needs
-
-returns : tie.Need-returns
-returns c =
-    let a = c .before .before .before .before .before .before .before .before .before .before .before .args in
-    let f = lightOf (a .count) (a .procs .now) (a .tables .now) in
-    let z = c .before .before .before .before .before .before .before .before .before .before .before .pre .0 .2 in
-    let o = code-byte (a .image .now) (a .code .now) (a .m .code) (a .p) _ z refl in
-    let q = sym (c .before .before .before .before .before .before .row-at .ensures) ∙ c .before .before .before .before .row .given .1 in
-    c .has-mark .ensures ∙ sym (ap (followedIn (a .map .now)) (flow-plain (a .image .now) f (a .m) (a .p) (a .d) _ _ o (c .before .before .before .before .before .before .before .before .before .before .before .pre .0 .1) _ _ q (sym (c .before .before .kind-of .ensures) ∙ c .before .if1 .taken)))
-
 add-target-at : tie.Need-add-target-at
-add-target-at c = omega (arith, c .before .before .before .before .before .before .before .before .before .before .before .pre .0 .0, c .before .before .before .before .before .before .before .before .before .before .before .pre .1 .sound .short)
+add-target-at c = omega (arith, c .before .before .before .before .before .before .before .before .before .before .pre .0 .0, c .before .before .before .before .before .before .before .before .before .before .pre .1 .sound .short)
 
 add-target-at-2 : tie.Need-add-target-at-2
-add-target-at-2 c = omega (arith, c .before .before .before .before .before .before .before .before .before .before .before .pre .0 .0, c .before .before .before .before .before .before .before .before .before .before .before .pre .1 .sound .short)
+add-target-at-2 c = omega (arith, c .before .before .before .before .before .before .before .before .before .before .pre .0 .0, c .before .before .before .before .before .before .before .before .before .before .pre .1 .sound .short)
 
 target-at-requires : tie.Need-target-at-requires
-target-at-requires c κs = (omega (arith, c .before .before .before .before .before .before .before .before .before .before .before .pre .0 .0, c .before .before .before .before .before .before .before .before .before .before .before .pre .1 .sound .short), omega (arith, c .before .before .before .before .before .before .before .before .before .before .before .pre .0 .0, c .before .before .before .before .before .before .before .before .before .before .before .pre .1 .sound .short))
+target-at-requires c κs = (omega (arith, c .before .before .before .before .before .before .before .before .before .before .pre .0 .0, c .before .before .before .before .before .before .before .before .before .before .pre .1 .sound .short), omega (arith, c .before .before .before .before .before .before .before .before .before .before .pre .0 .0, c .before .before .before .before .before .before .before .before .before .before .pre .1 .sound .short))
 
 jump-requires : tie.Need-jump-requires
 jump-requires c κs = search needs
@@ -52,16 +40,28 @@ jump-requires c κs = search needs
 follows-requires : tie.Need-follows-requires
 follows-requires c κs = search needs
 
-returns-2 : tie.Need-returns-2
-returns-2 c =
-    let a = c .before .before .before .before .before .before .before .before .before .before .before .before .before .before .args in
+returns : tie.Need-returns
+returns c =
+    let a = c .before .before .before .before .before .before .before .before .before .before .before .before .before .args in
     let f = lightOf (a .count) (a .procs .now) (a .tables .now) in
-    let z = c .before .before .before .before .before .before .before .before .before .before .before .before .before .before .pre .0 .2 in
+    let z = c .before .before .before .before .before .before .before .before .before .before .before .before .before .pre .0 .2 in
     let o = code-byte (a .image .now) (a .code .now) (a .m .code) (a .p) _ z refl in
-    let q = sym (c .before .before .before .before .before .before .before .before .before .row-at .ensures) ∙ c .before .before .before .before .before .before .before .row .given .1 in
+    let q = sym (c .before .before .before .before .before .before .before .before .row-at .ensures) ∙ c .before .before .before .before .before .before .row .given .1 in
     let x = code-byte (a .image .now) (a .code .now) (a .m .code) (a .p + 1) (a .m .code + (a .p + 1)) z refl in
     let y = code-byte (a .image .now) (a .code .now) (a .m .code) (a .p + 1 + 1) (a .m .code + (a .p + 2)) z (omega arith) in
-    c .follows .ensures ∙ ap (followedIn (a .map .now)) (c .before .jump .ensures ∙ sym (flow-jump (a .image .now) f (a .m) (a .p) (a .d) _ _ o (c .before .before .before .before .before .before .before .before .before .before .before .before .before .before .pre .0 .1) _ _ q (sym (c .before .before .before .before .before .kind-of .ensures) ∙ c .before .before .before .if2 .taken) _ _ _ (c .before .before .target-at .ensures) x y))
+    c .follows .ensures ∙ ap (followedIn (a .map .now)) (c .before .jump .ensures ∙ sym (flow-jump (a .image .now) f (a .m) (a .p) (a .d) _ _ o (c .before .before .before .before .before .before .before .before .before .before .before .before .before .pre .0 .1) _ _ q _ (c .before .before .before .before .kind-of .ensures) (c .before .before .before .if1 .taken) _ _ _ (c .before .before .target-at .ensures) x y))
+
+has-mark-requires : tie.Need-has-mark-requires
+has-mark-requires c κs = search needs
+
+returns-2 : tie.Need-returns-2
+returns-2 c =
+    let a = c .before .before .before .before .before .before .before .before .before .before .before .before .args in
+    let f = lightOf (a .count) (a .procs .now) (a .tables .now) in
+    let z = c .before .before .before .before .before .before .before .before .before .before .before .before .pre .0 .2 in
+    let o = code-byte (a .image .now) (a .code .now) (a .m .code) (a .p) _ z refl in
+    let q = sym (c .before .before .before .before .before .before .before .row-at .ensures) ∙ c .before .before .before .before .before .row .given .1 in
+    c .has-mark .ensures ∙ sym (ap (followedIn (a .map .now)) (flow-plain (a .image .now) f (a .m) (a .p) (a .d) _ _ o (c .before .before .before .before .before .before .before .before .before .before .before .before .pre .0 .1) _ _ q _ (c .before .before .before .kind-of .ensures) (c .before .before .if1 .left) (c .before .if2 .taken)))
 
 returns-3 : tie.Need-returns-3
 returns-3 c =
@@ -70,7 +70,7 @@ returns-3 c =
     let z = c .before .before .before .before .before .before .before .before .before .before .before .before .pre .0 .2 in
     let o = code-byte (a .image .now) (a .code .now) (a .m .code) (a .p) _ z refl in
     let q = sym (c .before .before .before .before .before .before .before .row-at .ensures) ∙ c .before .before .before .before .before .row .given .1 in
-    sym (ap (followedIn (a .map .now)) (flow-ends (a .image .now) f (a .m) (a .p) (a .d) _ _ o (c .before .before .before .before .before .before .before .before .before .before .before .before .pre .0 .1) _ _ q (sym (c .before .before .before .kind-of .ensures) ∙ c .if3 .taken)))
+    sym (ap (followedIn (a .map .now)) (flow-ends (a .image .now) f (a .m) (a .p) (a .d) _ _ o (c .before .before .before .before .before .before .before .before .before .before .before .before .pre .0 .1) _ _ q _ (c .before .before .before .kind-of .ensures) (c .before .if2 .left) (c .if3 .taken)))
 
 add-byte-at : tie.Need-add-byte-at
 add-byte-at c = omega (arith, c .before .before .before .before .before .before .before .before .before .before .before .before .pre .0 .0, c .before .before .before .before .before .before .before .before .before .before .before .before .pre .1 .sound .short)
@@ -85,9 +85,7 @@ byte-at-requires-2 : tie.Need-byte-at-requires-2
 byte-at-requires-2 c κs = search needs
 
 onward-at-requires : tie.Need-onward-at-requires
-onward-at-requires c κs =
-    let k = c .before .before .before .before .before .kind-of .ensures in
-    (kind-other _ (λ z. c .before .before .before .before .if1 .left (k ∙ z)) (λ z. c .before .before .before .if2 .left (k ∙ z)) (λ z. c .before .before .if3 .left (k ∙ z)), (c .before .before .before .before .before .before .before .before .before .before .before .before .before .before .pre .1 .sound .near, c .before .before .before .before .before .before .before .before .before .before .before .before .before .before .pre .1 .placed))
+onward-at-requires c κs = (kind-other _ _ (c .before .before .before .before .before .kind-of .ensures) (c .before .before .if3 .left), (c .before .before .before .before .before .before .before .before .before .before .before .before .before .before .pre .1 .sound .near, c .before .before .before .before .before .before .before .before .before .before .before .before .before .before .pre .1 .placed))
 
 follows-requires-2 : tie.Need-follows-requires-2
 follows-requires-2 c κs = search needs
@@ -118,13 +116,13 @@ position-fits-spec =
     enum-told
     enum-known-row
     kind-of-requires
-    has-mark-requires
-    returns
     add-target-at
     add-target-at-2
     target-at-requires
     jump-requires
     follows-requires
+    returns
+    has-mark-requires
     returns-2
     returns-3
     add-byte-at

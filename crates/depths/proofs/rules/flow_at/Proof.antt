@@ -30,14 +30,6 @@ enum-known-row c = search needs
 kind-of-requires : tie.Need-kind-of-requires
 kind-of-requires c κs = c .before .before .before .before .before .before .before .before .pre .1 .kinds-are
 
-returns : tie.Need-returns
-returns c =
-    let a = c .before .before .before .before .before .before .before .before .before .before .args in
-    let f = lightOf (a .count) (a .procs .now) (a .tables .now) in
-    let o = c .before .before .before .before .before .before .before .byte-at .ensures in
-    let q = sym (c .before .before .before .before .before .row-at .ensures) ∙ c .before .before .before .row .given .1 in
-    sym (flow-plain (a .image .now) f (a .m) (a .p) (a .d) (c .before .before .before .before .before .before .before .byte-at .result) (a .m .length) o refl _ _ q (sym (c .before .kind-of .ensures) ∙ c .if1 .taken))
-
 add-target-at : tie.Need-add-target-at
 add-target-at c = search needs
 
@@ -48,19 +40,27 @@ add-target-at-3 : tie.Need-add-target-at-3
 add-target-at-3 c = search needs
 
 target-at-requires : tie.Need-target-at-requires
-target-at-requires c κs = (omega (arith, c .before .before .before .before .before .before .before .before .before .before .before .before .pre .0, c .before .before .before .before .before .before .before .before .before .before .before .before .pre .1 .sound .within, c .before .before .before .before .before .before .before .before .before .before .before .before .pre .1 .placed .brief), omega (arith, c .before .before .before .before .before .before .before .before .before .before .before .before .pre .0, c .before .before .before .before .before .before .before .before .before .before .before .before .pre .1 .sound .short))
+target-at-requires c κs = (omega (arith, c .before .before .before .before .before .before .before .before .before .before .before .pre .0, c .before .before .before .before .before .before .before .before .before .before .before .pre .1 .sound .within, c .before .before .before .before .before .before .before .before .before .before .before .pre .1 .placed .brief), omega (arith, c .before .before .before .before .before .before .before .before .before .before .before .pre .0, c .before .before .before .before .before .before .before .before .before .before .before .pre .1 .sound .short))
 
 jump-requires : tie.Need-jump-requires
 jump-requires c κs = search needs
 
+returns : tie.Need-returns
+returns c =
+    let a = c .before .before .before .before .before .before .before .before .before .before .before .before .before .args in
+    let f = lightOf (a .count) (a .procs .now) (a .tables .now) in
+    let o = c .before .before .before .before .before .before .before .before .before .before .byte-at .ensures in
+    let q = sym (c .before .before .before .before .before .before .before .before .row-at .ensures) ∙ c .before .before .before .before .before .before .row .given .1 in
+    let y : byte (a .image .now) (a .m .code + (a .p + 1) + 1) ≡ byte (a .image .now) (a .m .code + (a .p + 2)) = ap (byte (a .image .now)) (omega arith) in
+    c .jump .ensures ∙ sym (flow-jump (a .image .now) f (a .m) (a .p) (a .d) (c .before .before .before .before .before .before .before .before .before .before .byte-at .result) (a .m .length) o refl _ _ q _ (c .before .before .before .before .kind-of .ensures) (c .before .before .before .if1 .taken) _ _ _ (c .before .target-at .ensures) refl y)
+
 returns-2 : tie.Need-returns-2
 returns-2 c =
-    let a = c .before .before .before .before .before .before .before .before .before .before .before .before .before .before .args in
+    let a = c .before .before .before .before .before .before .before .before .before .before .before .args in
     let f = lightOf (a .count) (a .procs .now) (a .tables .now) in
-    let o = c .before .before .before .before .before .before .before .before .before .before .before .byte-at .ensures in
-    let q = sym (c .before .before .before .before .before .before .before .before .before .row-at .ensures) ∙ c .before .before .before .before .before .before .before .row .given .1 in
-    let y : byte (a .image .now) (a .m .code + (a .p + 1) + 1) ≡ byte (a .image .now) (a .m .code + (a .p + 2)) = ap (byte (a .image .now)) (omega arith) in
-    c .jump .ensures ∙ sym (flow-jump (a .image .now) f (a .m) (a .p) (a .d) (c .before .before .before .before .before .before .before .before .before .before .before .byte-at .result) (a .m .length) o refl _ _ q (sym (c .before .before .before .before .before .kind-of .ensures) ∙ c .before .before .before .if2 .taken) _ _ _ (c .before .target-at .ensures) refl y)
+    let o = c .before .before .before .before .before .before .before .before .byte-at .ensures in
+    let q = sym (c .before .before .before .before .before .before .row-at .ensures) ∙ c .before .before .before .before .row .given .1 in
+    sym (flow-plain (a .image .now) f (a .m) (a .p) (a .d) (c .before .before .before .before .before .before .before .before .byte-at .result) (a .m .length) o refl _ _ q _ (c .before .before .kind-of .ensures) (c .before .if1 .left) (c .if2 .taken))
 
 returns-3 : tie.Need-returns-3
 returns-3 c =
@@ -68,7 +68,7 @@ returns-3 c =
     let f = lightOf (a .count) (a .procs .now) (a .tables .now) in
     let o = c .before .before .before .before .before .before .before .before .before .byte-at .ensures in
     let q = sym (c .before .before .before .before .before .before .before .row-at .ensures) ∙ c .before .before .before .before .before .row .given .1 in
-    sym (flow-ends (a .image .now) f (a .m) (a .p) (a .d) (c .before .before .before .before .before .before .before .before .before .byte-at .result) (a .m .length) o refl _ _ q (sym (c .before .before .before .kind-of .ensures) ∙ c .if3 .taken))
+    sym (flow-ends (a .image .now) f (a .m) (a .p) (a .d) (c .before .before .before .before .before .before .before .before .before .byte-at .result) (a .m .length) o refl _ _ q _ (c .before .before .before .kind-of .ensures) (c .before .if2 .left) (c .if3 .taken))
 
 add-byte-at-2 : tie.Need-add-byte-at-2
 add-byte-at-2 c = search needs
@@ -89,9 +89,7 @@ byte-at-requires-3 : tie.Need-byte-at-requires-3
 byte-at-requires-3 c κs = search needs
 
 onward-at-requires : tie.Need-onward-at-requires
-onward-at-requires c κs =
-    let k = c .before .before .before .before .before .before .before .kind-of .ensures in
-    (kind-other _ (λ z. c .before .before .before .before .before .before .if1 .left (k ∙ z)) (λ z. c .before .before .before .before .before .if2 .left (k ∙ z)) (λ z. c .before .before .before .before .if3 .left (k ∙ z)), (c .before .before .before .before .before .before .before .before .before .before .before .before .before .before .before .before .pre .1 .sound .near, c .before .before .before .before .before .before .before .before .before .before .before .before .before .before .before .before .pre .1 .placed))
+onward-at-requires c κs = (kind-other _ _ (c .before .before .before .before .before .before .before .kind-of .ensures) (c .before .before .before .before .if3 .left), (c .before .before .before .before .before .before .before .before .before .before .before .before .before .before .before .before .pre .1 .sound .near, c .before .before .before .before .before .before .before .before .before .before .before .before .before .before .before .before .pre .1 .placed))
 
 returns-4 : tie.Need-returns-4
 returns-4 c =
@@ -117,12 +115,12 @@ flow-at-spec =
     enum-told
     enum-known-row
     kind-of-requires
-    returns
     add-target-at
     add-target-at-2
     add-target-at-3
     target-at-requires
     jump-requires
+    returns
     returns-2
     returns-3
     add-byte-at-2

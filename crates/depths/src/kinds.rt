@@ -1,6 +1,6 @@
-// The kind of each opcode: one look-up in place of a chain of tests. specs/Cases.antt has the tests, and the table is computed from them
-// there. It is lent, as the rows are. Kinds are tested by their order, from the lowest: the compiler takes tests for equality out of
-// their order, and that is slower.
+// The kind of each opcode: one look-up in place of a chain of tests. It is what specs/Cases.antt computes from these tests, and is lent, as
+// the rows are. Kinds are tested by their order, from the lowest: tests for equality become a switch, in an order that the compiler
+// chooses (docs/PERFORMANCE.md).
 
 // 030 to 037.
 pub const JUMP: u8 = 1;

@@ -1,4 +1,4 @@
-// Files to read from.
+// Files to read from, and standard input.
 use crate::print;
 use libc::STDIN_FILENO;
 ghost use lib.ListN.{length};
@@ -8,14 +8,6 @@ ghost use Rattle.console.specs.Counted.{Within};
 pub enum Filled {
     Bytes(usize),
     Failed,
-}
-
-// A descriptor of the file, or -1 (`os::errno` says why). `-` is standard input.
-pub fn opened(name: &[u8]) -> i32 {
-    if check::same(name, b"-") {
-        return STDIN_FILENO;
-    }
-    os::open_read(name)
 }
 
 // One read.
@@ -50,21 +42,32 @@ pub fn fill(fd: i32, buffer: &mut [u8]) -> Filled
     Filled::Bytes(done)
 }
 
-// Reads the file into the buffer. Where it cannot be read, a line on standard error says why.
-pub fn contents(program: &[u8], name: &[u8], buffer: &mut [u8]) -> Filled
+// Reads from the descriptor into the buffer. Where a read fails, a line on standard error says why, of what the caller names it.
+pub fn read_from(program: &[u8], name: &[u8], fd: i32, buffer: &mut [u8]) -> Filled
     ensures { λ r. ⌜ Within r (length (now (buffer .entry))) ⌝ }
 {
-    let fd = opened(name);
-    if fd < 0 {
-        print::unreadable(program, name);
-        return Filled::Failed;
-    }
     let got = fill(fd, buffer);
     if let Filled::Failed = got {
         print::unreadable(program, name);
     }
-    if fd != STDIN_FILENO {
-        libc::close(fd);
+    got
+}
+
+// Reads the file into the buffer. Where it cannot be read, a line on standard error says why. `-` is standard input, which stays
+// open. A file that was opened is closed, also where its descriptor is 0, as it is where standard input was closed: a later `-` then
+// finds no file there.
+pub fn contents(program: &[u8], name: &[u8], buffer: &mut [u8]) -> Filled
+    ensures { λ r. ⌜ Within r (length (now (buffer .entry))) ⌝ }
+{
+    if check::same(name, b"-") {
+        return read_from(program, name, STDIN_FILENO, buffer);
     }
+    let fd = os::open_read(name);
+    if fd < 0 {
+        print::unreadable(program, name);
+        return Filled::Failed;
+    }
+    let got = read_from(program, name, fd, buffer);
+    libc::close(fd);
     got
 }

@@ -1,10 +1,15 @@
--- Worked cases of the definitions of Decimals and Choices, by computing. Assumes nothing.
+-- Worked cases of the definitions of Decimals, Choices and Asks, by computing. Assumes nothing.
 use mathlib.Core.Path.{_≡_, refl}
+use mathlib.Core.Bool.{false}
 use mathlib.Core.List.{[], _∷_}
 use Rattle.console.specs.declared.number.Number.the-variants.{Is, Bad}
 use Rattle.console.specs.declared.options.Choice.the-variants.{Input, Store, Bad as BadChoice}
+use Rattle.console.specs.declared.options.Argument.the-variants.{Help, Unknown, File}
+use Rattle.console.specs.declared.arguments.Awaited.the-variants.{Nothing, Steps}
 use Rattle.console.specs.Decimals.{allDigits, valueFrom, numberFrom, numberOf}
-use Rattle.console.specs.Choices.{placeOf, inputFrom, inputOf, storeOf}
+use Rattle.console.specs.Choices.{sameText, placeOf, nameOf, hasValue, valueOf, kindOf, stepsOf, inputFrom, inputOf, storeOf}
+use Rattle.console.specs.Asks.{nothingAsked, goesOn, endsWith, nameSays, withValue, valueSays, wordSays, awaits, textSays}
+use lib.ListN.{replicate}
 
 -- `4294967295` and `4294967296`
 pub largest-number : numberOf (52 ∷ 50 ∷ 57 ∷ 52 ∷ 57 ∷ 54 ∷ 55 ∷ 50 ∷ 57 ∷ 53 ∷ []) ≡ Is 4294967295
@@ -39,17 +44,47 @@ larger-store = refl
 
 -- `15=9`, `16=9`, `3` and `3=1=2`
 pub last-channel : inputOf (49 ∷ 53 ∷ 61 ∷ 57 ∷ []) ≡ Input 15 9
-unfolding inputOf inputFrom placeOf numberOf numberFrom allDigits valueFrom
+unfolding inputOf hasValue nameOf valueOf inputFrom placeOf numberOf numberFrom allDigits valueFrom
 last-channel = refl
 
 pub no-channel : inputOf (49 ∷ 54 ∷ 61 ∷ 57 ∷ []) ≡ BadChoice
-unfolding inputOf inputFrom placeOf numberOf numberFrom allDigits valueFrom
+unfolding inputOf hasValue nameOf valueOf inputFrom placeOf numberOf numberFrom allDigits valueFrom
 no-channel = refl
 
 pub no-value : inputOf (51 ∷ []) ≡ BadChoice
-unfolding inputOf inputFrom placeOf numberOf numberFrom allDigits valueFrom
+unfolding inputOf hasValue nameOf valueOf inputFrom placeOf numberOf numberFrom allDigits valueFrom
 no-value = refl
 
 pub two-values : inputOf (51 ∷ 61 ∷ 49 ∷ 61 ∷ 50 ∷ []) ≡ BadChoice
-unfolding inputOf inputFrom placeOf numberOf numberFrom allDigits valueFrom
+unfolding inputOf hasValue nameOf valueOf inputFrom placeOf numberOf numberFrom allDigits valueFrom
 two-values = refl
+
+-- `-h`, `--help=3`, `a=b` and `-=b`
+pub short-help : kindOf (45 ∷ 104 ∷ []) ≡ Help
+unfolding kindOf sameText nameOf placeOf
+short-help = refl
+
+pub help-with-value : kindOf (45 ∷ 45 ∷ 104 ∷ 101 ∷ 108 ∷ 112 ∷ 61 ∷ 51 ∷ []) ≡ Unknown
+unfolding kindOf sameText nameOf placeOf
+help-with-value = refl
+
+pub file-with-equals : kindOf (97 ∷ 61 ∷ 98 ∷ []) ≡ File
+unfolding kindOf sameText nameOf placeOf
+file-with-equals = refl
+
+pub dash-with-equals : kindOf (45 ∷ 61 ∷ 98 ∷ []) ≡ Unknown
+unfolding kindOf sameText nameOf placeOf
+dash-with-equals = refl
+
+-- `--steps=5`, `--steps=` and `--steps`
+pub value-with-name : textSays nothingAsked (45 ∷ 45 ∷ 115 ∷ 116 ∷ 101 ∷ 112 ∷ 115 ∷ 61 ∷ 53 ∷ []) ≡ goesOn (record { steps = 5; store = 4096; inputs = replicate 16 0 }) 0 Nothing
+unfolding textSays awaits wordSays nameSays valueSays withValue kindOf sameText hasValue nameOf valueOf placeOf stepsOf numberOf numberFrom allDigits valueFrom
+value-with-name = refl
+
+pub empty-value : textSays nothingAsked (45 ∷ 45 ∷ 115 ∷ 116 ∷ 101 ∷ 112 ∷ 115 ∷ 61 ∷ []) ≡ endsWith (goesOn (nothingAsked .options) 0 Steps) false
+unfolding textSays awaits wordSays nameSays valueSays withValue kindOf sameText hasValue nameOf valueOf placeOf stepsOf numberOf numberFrom allDigits valueFrom
+empty-value = refl
+
+pub value-to-come : textSays nothingAsked (45 ∷ 45 ∷ 115 ∷ 116 ∷ 101 ∷ 112 ∷ 115 ∷ []) ≡ goesOn (nothingAsked .options) 0 Steps
+unfolding textSays awaits wordSays nameSays valueSays withValue kindOf sameText hasValue nameOf valueOf placeOf stepsOf numberOf numberFrom allDigits valueFrom
+value-to-come = refl

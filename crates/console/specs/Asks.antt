@@ -12,7 +12,7 @@ use Rattle.console.specs.declared.options.Choice.the-variants as Chosen
 use Rattle.console.specs.declared.arguments.Awaited.{Awaited}
 use Rattle.console.specs.declared.arguments.Awaited.the-variants.{Nothing, Steps, Store, Input}
 use Rattle.console.specs.declared.arguments.Asked.{Asked}
-use Rattle.console.specs.Choices.{defaultOptions, kindOf, stepsOf, storeOf, inputOf, withChoice}
+use Rattle.console.specs.Choices.{defaultOptions, kindOf, hasValue, valueOf, stepsOf, storeOf, inputOf, withChoice}
 
 abbrev pub goesOn : Options → ℕ → Awaited → Asked
 goesOn options files awaited = record { options = options; files = files; awaited = awaited; help = false; bad = false }
@@ -37,8 +37,8 @@ kindSays a Named.Input = goesOn (a .options) (a .files) Input
 kindSays a Named.Unknown = endsWith a false
 kindSays a Named.File = goesOn (a .options) (oneMore (a .files)) Nothing
 
-unfoldable pub wordSays : Asked → List ℕ → Asked
-wordSays a text = kindSays a (kindOf text)
+unfoldable pub nameSays : Asked → List ℕ → Asked
+nameSays a text = kindSays a (kindOf text)
 
 abbrev pub isBad : Choice → Bool
 isBad (Chosen.Steps n) = false
@@ -50,15 +50,33 @@ isBad Chosen.Bad = true
 unfoldable pub withValue : Asked → Choice → Asked
 withValue a choice = pick (isBad choice) (endsWith a false) (goesOn (withChoice (a .options) choice) (a .files) Nothing)
 
-abbrev pub saysBy : Awaited → Asked → List ℕ → Asked
-saysBy Nothing a text = wordSays a text
-saysBy Steps a text = withValue a (stepsOf text)
-saysBy Store a text = withValue a (storeOf text)
-saysBy Input a text = withValue a (inputOf text)
+abbrev pub valueBy : Awaited → Asked → List ℕ → Asked
+valueBy Nothing a text = a
+valueBy Steps a text = withValue a (stepsOf text)
+valueBy Store a text = withValue a (storeOf text)
+valueBy Input a text = withValue a (inputOf text)
+
+-- the value of the option that awaits one
+unfoldable pub valueSays : Asked → List ℕ → Asked
+valueSays a text = valueBy (a .awaited) a text
+
+-- `--steps=5` says what `--steps` and then `5` say; the `=` in the name of a file says nothing
+unfoldable pub wordSays : Asked → List ℕ → Asked
+wordSays a text = pick (hasValue text) (valueSays (nameSays a text) (valueOf text)) (nameSays a text)
+
+abbrev pub awaitsBy : Awaited → Bool
+awaitsBy Nothing = false
+awaitsBy Steps = true
+awaitsBy Store = true
+awaitsBy Input = true
+
+-- whether an option awaits its value
+unfoldable pub awaits : Asked → Bool
+awaits a = awaitsBy (a .awaited)
 
 -- one argument more
 unfoldable pub textSays : Asked → List ℕ → Asked
-textSays a text = saysBy (a .awaited) a text
+textSays a text = pick (awaits a) (valueSays a text) (wordSays a text)
 
 abbrev pub wholeBy : Awaited → Asked → Asked
 wholeBy Nothing a = a

@@ -25,9 +25,12 @@ sameText [] (b ∷ t) = false
 sameText (a ∷ s) [] = false
 sameText (a ∷ s) (b ∷ t) = and (eqb a b) (sameText s t)
 
--- `--help`, `--steps`, `--store`, `--input` in ASCII
+-- `--help`, `-h`, `--steps`, `--store`, `--input` in ASCII
 abbrev pub helpText : List ℕ
 helpText = 45 ∷ 45 ∷ 104 ∷ 101 ∷ 108 ∷ 112 ∷ []
+
+abbrev pub shortHelpText : List ℕ
+shortHelpText = 45 ∷ 104 ∷ []
 
 abbrev pub stepsText : List ℕ
 stepsText = 45 ∷ 45 ∷ 115 ∷ 116 ∷ 101 ∷ 112 ∷ 115 ∷ []
@@ -38,15 +41,33 @@ storeText = 45 ∷ 45 ∷ 115 ∷ 116 ∷ 111 ∷ 114 ∷ 101 ∷ []
 abbrev pub inputText : List ℕ
 inputText = 45 ∷ 45 ∷ 105 ∷ 110 ∷ 112 ∷ 117 ∷ 116 ∷ []
 
--- another text that begins with `-` and has more than that is no file
+-- where the first b stands in a text; its length where there is none
+unfoldable pub placeOf : ℕ → List ℕ → ℕ
+placeOf b [] = 0
+placeOf b (a ∷ rest) = pick (eqb a b) 0 (placeOf b rest + 1)
+
+-- NAME=VALUE, split at the first `=` (61): what stands before it, all of the text where there is none; whether there is one; and what
+-- stands after it, nothing where there is none
+unfoldable pub nameOf : List ℕ → List ℕ
+nameOf text = take (placeOf 61 text) text
+
+unfoldable pub hasValue : List ℕ → Bool
+hasValue text = ltb (placeOf 61 text) (length text)
+
+unfoldable pub valueOf : List ℕ → List ℕ
+valueOf text = drop (placeOf 61 text + 1) text
+
+-- An option that takes a value may have it in its own argument, `--steps=5`; help takes none. Another text that begins with `-` and has
+-- more than that is no file.
 unfoldable pub kindOf : List ℕ → Argument
 kindOf text =
     pick (sameText text helpText) Help
-    (pick (sameText text stepsText) StepsNamed
-    (pick (sameText text storeText) StoreNamed
-    (pick (sameText text inputText) InputNamed
+    (pick (sameText text shortHelpText) Help
+    (pick (sameText (nameOf text) stepsText) StepsNamed
+    (pick (sameText (nameOf text) storeText) StoreNamed
+    (pick (sameText (nameOf text) inputText) InputNamed
     (pick (ltb (length text) 2) File
-    (pick (eqb (getD text 0 0) 45) Unknown File)))))
+    (pick (eqb (getD text 0 0) 45) Unknown File))))))
 
 abbrev pub stepsFrom : Number → Choice
 stepsFrom (Is n) = Steps n
@@ -62,11 +83,6 @@ storeFrom Bad = BadChoice
 unfoldable pub storeOf : List ℕ → Choice
 storeOf text = storeFrom (numberOf text)
 
--- where the first b stands in a text; its length where there is none
-unfoldable pub placeOf : ℕ → List ℕ → ℕ
-placeOf b [] = 0
-placeOf b (a ∷ rest) = pick (eqb a b) 0 (placeOf b rest + 1)
-
 abbrev pub wired : Number → Number → Choice
 wired (Is c) (Is v) = pick (and (leb c 15) (leb v 65535)) (Input c v) BadChoice
 wired (Is c) Bad = BadChoice
@@ -75,11 +91,9 @@ wired Bad v = BadChoice
 unfoldable pub inputFrom : List ℕ → List ℕ → Choice
 inputFrom channel value = wired (numberOf channel) (numberOf value)
 
--- CH=VALUE: what stands before the first `=` (61), and what stands after it
+-- CH=VALUE
 unfoldable pub inputOf : List ℕ → Choice
-inputOf text =
-    pick (eqb (placeOf 61 text) (length text)) BadChoice
-    (inputFrom (take (placeOf 61 text) text) (drop (placeOf 61 text + 1) text))
+inputOf text = pick (hasValue text) (inputFrom (nameOf text) (valueOf text)) BadChoice
 
 -- the field that a choice sets, to what it says; a later one wins
 abbrev pub withChoice : Options → Choice → Options

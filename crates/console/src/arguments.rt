@@ -7,7 +7,7 @@ use crate::options::Options;
 use crate::print;
 use libc::STDERR_FILENO;
 ghost use mathlib.Core.Path.{_≡_};
-ghost use Rattle.console.specs.Asks.{nothingAsked, goesOn, endsWith, oneMore, isBad, withValue, wordSays, textSays, wholeOf};
+ghost use Rattle.console.specs.Asks.{nothingAsked, goesOn, endsWith, oneMore, isBad, withValue, nameSays, valueSays, wordSays, awaits, textSays, wholeOf};
 
 // The option whose value comes next.
 pub enum Awaited {
@@ -70,9 +70,9 @@ fn one_more(files: usize) -> usize
     2
 }
 
-// A file, or the name of an option.
-fn with_word(program: &[u8], asked: Asked, text: &[u8]) -> Asked
-    ensures { λ r. ⌜ r ≡ wordSays asked (now (text .entry)) ⌝ }
+// A file, or an option by its name.
+fn with_name(program: &[u8], asked: Asked, text: &[u8]) -> Asked
+    ensures { λ r. ⌜ r ≡ nameSays asked (now (text .entry)) ⌝ }
 {
     let options = asked.options;
     let files = asked.files;
@@ -113,13 +113,13 @@ fn with_value(program: &[u8], asked: Asked, text: &[u8], choice: Choice, allowed
     going_on(options, asked.files, Awaited::Nothing)
 }
 
-// One argument more.
-pub fn with_text(program: &[u8], asked: Asked, text: &[u8]) -> Asked
-    ensures { λ r. ⌜ r ≡ textSays asked (now (text .entry)) ⌝ }
+// The value of the option that awaits one.
+fn with_awaited(program: &[u8], asked: Asked, text: &[u8]) -> Asked
+    ensures { λ r. ⌜ r ≡ valueSays asked (now (text .entry)) ⌝ }
 {
     let awaited = asked.awaited;
     match awaited {
-        Awaited::Nothing => with_word(program, asked, text),
+        Awaited::Nothing => asked,
         Awaited::Steps => with_value(
             program,
             asked,
@@ -142,6 +142,40 @@ pub fn with_text(program: &[u8], asked: Asked, text: &[u8]) -> Asked
             b"--input takes CH=VALUE, a channel from 0 to 15 and a value from 0 to 65535",
         ),
     }
+}
+
+// A file, or an option, with its value where that stands in the same argument.
+fn with_word(program: &[u8], asked: Asked, text: &[u8]) -> Asked
+    ensures { λ r. ⌜ r ≡ wordSays asked (now (text .entry)) ⌝ }
+{
+    let named = with_name(program, asked, text);
+    if options::has_value(text) {
+        return with_awaited(program, named, options::value(text));
+    }
+    named
+}
+
+// Whether an option awaits its value.
+pub fn awaits_value(asked: Asked) -> bool
+    ensures { λ r. ⌜ r ≡ awaits asked ⌝ }
+{
+    let awaited = asked.awaited;
+    match awaited {
+        Awaited::Nothing => false,
+        Awaited::Steps => true,
+        Awaited::Store => true,
+        Awaited::Input => true,
+    }
+}
+
+// One argument more.
+pub fn with_text(program: &[u8], asked: Asked, text: &[u8]) -> Asked
+    ensures { λ r. ⌜ r ≡ textSays asked (now (text .entry)) ⌝ }
+{
+    if awaits_value(asked) {
+        return with_awaited(program, asked, text);
+    }
+    with_word(program, asked, text)
 }
 
 // After the last argument: no option may still await its value.

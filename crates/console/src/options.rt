@@ -4,7 +4,7 @@ use crate::number::decimal;
 ghost use mathlib.Core.Path.{_≡_};
 ghost use lib.ListN.{length, set};
 ghost use Prim.Native.Nat.{_≤_};
-ghost use Rattle.console.specs.Choices.{defaultOptions, sameText, kindOf, stepsOf, storeOf, placeOf, inputFrom, inputOf, withChoice};
+ghost use Rattle.console.specs.Choices.{defaultOptions, sameText, kindOf, stepsOf, storeOf, placeOf, nameOf, hasValue, valueOf, inputFrom, inputOf, withChoice};
 
 pub struct Options {
     pub steps: u32,
@@ -24,7 +24,7 @@ pub fn defaults() -> Options
     }
 }
 
-// What one argument is: the name of an option, an option that there is not, or a file.
+// What one argument is: the name of an option, with its value or without it, an option that there is not, or a file.
 pub enum Argument {
     Help,
     Steps,
@@ -41,6 +41,51 @@ fn same(a: &[u8], b: &[u8]) -> bool
     check::same(a, b)
 }
 
+// Where the first `=` stands, or the text's length.
+fn equals(text: &[u8]) -> usize
+    ensures { λ r. ⌜ (r ≡ placeOf 61 (now (text .entry))) × (r ≤ length (now (text .entry))) ⌝ }
+{
+    let mut i: usize = 0;
+    while i < text.len() {
+        if text[i] == 61 {
+            return i;
+        }
+        i += 1;
+    }
+    i
+}
+
+// An argument NAME=VALUE is split at its first `=`. The name is all of it where there is none.
+pub fn name(text: &[u8]) -> &[u8]
+    ensures { λ r. ⌜ now r ≡ nameOf (now (text .entry)) ⌝ }
+{
+    let at = equals(text);
+    &text[..at]
+}
+
+// Whether there is a value.
+pub fn has_value(text: &[u8]) -> bool
+    ensures { λ r. ⌜ r ≡ hasValue (now (text .entry)) ⌝ }
+{
+    let at = equals(text);
+    if at < text.len() {
+        return true;
+    }
+    false
+}
+
+// The value; nothing where there is none.
+pub fn value(text: &[u8]) -> &[u8]
+    ensures { λ r. ⌜ now r ≡ valueOf (now (text .entry)) ⌝ }
+{
+    let at = equals(text);
+    if at < text.len() {
+        let next = at + 1;
+        return &text[next..];
+    }
+    &text[at..]
+}
+
 // `-` alone is a file: standard input.
 pub fn kind(text: &[u8]) -> Argument
     ensures { λ r. ⌜ r ≡ kindOf (now (text .entry)) ⌝ }
@@ -48,13 +93,17 @@ pub fn kind(text: &[u8]) -> Argument
     if same(text, b"--help") {
         return Argument::Help;
     }
-    if same(text, b"--steps") {
+    if same(text, b"-h") {
+        return Argument::Help;
+    }
+    let option = name(text);
+    if same(option, b"--steps") {
         return Argument::Steps;
     }
-    if same(text, b"--store") {
+    if same(option, b"--store") {
         return Argument::Store;
     }
-    if same(text, b"--input") {
+    if same(option, b"--input") {
         return Argument::Input;
     }
     if text.len() < 2 {
@@ -99,20 +148,6 @@ pub fn store(text: &[u8]) -> Choice
     }
 }
 
-// Where the first `=` stands, or the text's length.
-fn equals(text: &[u8]) -> usize
-    ensures { λ r. ⌜ (r ≡ placeOf 61 (now (text .entry))) × (r ≤ length (now (text .entry))) ⌝ }
-{
-    let mut i: usize = 0;
-    while i < text.len() {
-        if text[i] == 61 {
-            return i;
-        }
-        i += 1;
-    }
-    i
-}
-
 // A channel, 0 to 15, and a value, 0 to 65,535.
 fn pair(channel: &[u8], value: &[u8]) -> Choice
     ensures { λ r. ⌜ r ≡ inputFrom (now (channel .entry)) (now (value .entry)) ⌝ }
@@ -138,12 +173,10 @@ fn pair(channel: &[u8], value: &[u8]) -> Choice
 pub fn input(text: &[u8]) -> Choice
     ensures { λ r. ⌜ r ≡ inputOf (now (text .entry)) ⌝ }
 {
-    let at = equals(text);
-    if at == text.len() {
-        return Choice::Bad;
+    if has_value(text) {
+        return pair(name(text), value(text));
     }
-    let next = at + 1;
-    pair(&text[..at], &text[next..])
+    Choice::Bad
 }
 
 // The inputs with one of them set; there is none above 15.

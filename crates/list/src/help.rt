@@ -1,4 +1,4 @@
-// What --help prints.
+// What --help and -h print.
 use libc::STDOUT_FILENO;
 use listing::print::text;
 
@@ -16,7 +16,7 @@ fn put_columns() {
 pub fn put_help() {
     put_usage(STDOUT_FILENO);
     text(b"\nLists each image: its modules, their procedures, and their code, one line an\n");
-    text(b"instruction. FILE - is standard input.\n\n");
+    text(b"instruction. FILE - is standard input; -h and --help print this text.\n\n");
     put_columns();
     text(b"Bytes that no marked instruction covers are shown as unreached. An image that\n");
     text(b"load refuses shows the refusal; one that is refused with 8, no depths fit, also\n");

@@ -1,4 +1,4 @@
-// What --help prints.
+// What --help and -h print.
 use console::words;
 use libc::STDOUT_FILENO;
 
@@ -21,11 +21,13 @@ fn put_options() {
     put(b"  --store W         a store of W words, 0 to 65536 (default 4096)\n");
     put(b"  --input CH=VALUE  input channel CH, 0 to 15, holds VALUE, 0 to 65535 (default 0);\n");
     put(b"                    may be given again, a later one wins\n");
-    put(b"  --help            this text\n\n");
+    put(b"  -h, --help        this text\n\n");
     put(
-        b"Options hold for all files, wherever they stand. A file whose name begins with - is ./-NAME.\n",
+        b"A value may also stand behind =, as --steps=5. Options hold for all files, wherever they stand.\n",
     );
-    put(b"Several files: each reading stands below a line FILE:\n\n");
+    put(
+        b"A file whose name begins with - is ./-NAME. Several files: each reading stands below a line FILE:\n\n",
+    );
 }
 
 fn put_lines() {

@@ -1,6 +1,6 @@
 // Reads images with a chosen budget, store size and inputs, and prints the reading of each:
 // reading [--steps N] [--store W] [--input CH=VALUE].. FILE..
-// What is wrong is said on standard error, a line for each.
+// An option's value may also stand in its own argument, as --steps=N. What is wrong is said on standard error, a line for each.
 mod help;
 
 use console::arguments;
@@ -95,7 +95,7 @@ fn put_argument(
             put_file(&text[..n], several, image, map, store, options);
             false
         }
-        _ => true,
+        _ => !options::has_value(&text[..n]),
     }
 }
 

@@ -2,13 +2,13 @@
 // it, with a line on standard error.
 use console::arguments::Asked;
 use console::arguments::Awaited;
+use console::arguments::awaits_value;
 use console::arguments::begun;
 use console::arguments::whole;
 use console::arguments::with_text;
 use console::number::Number;
 use console::number::decimal;
-use console::options::Argument;
-use console::options::kind;
+use console::options;
 use console::print::complaint;
 use console::print::unreadable;
 
@@ -60,20 +60,25 @@ fn with_limit(before: Wanted, text: &[u8]) -> Wanted {
     }
 }
 
-fn is_awaited(awaited: Awaited) -> bool {
-    match awaited {
-        Awaited::Nothing => false,
-        _ => true,
-    }
-}
-
-// Whether a text is --limit, and not the value of another option.
-fn begins_limit(asked: Asked, text: &[u8]) -> bool {
-    let awaited = asked.awaited;
-    if is_awaited(awaited) {
+// Whether a text names --limit, and is not the value of another option.
+fn names_limit(asked: Asked, text: &[u8]) -> bool {
+    if awaits_value(asked) {
         return false;
     }
-    check::same(text, b"--limit")
+    check::same(options::name(text), b"--limit")
+}
+
+// --limit, with its value where that stands in the same argument.
+fn with_limiting(before: Wanted, text: &[u8]) -> Wanted {
+    if options::has_value(text) {
+        return with_limit(before, options::value(text));
+    }
+    let asked = before.asked;
+    Wanted {
+        asked,
+        limit: before.limit,
+        limiting: true,
+    }
 }
 
 // One argument more.
@@ -82,19 +87,14 @@ fn with_word(before: Wanted, text: &[u8]) -> Wanted {
         return with_limit(before, text);
     }
     let last = before.asked;
-    let limiting = begins_limit(last, text);
-    if limiting {
-        return Wanted {
-            asked: last,
-            limit: before.limit,
-            limiting,
-        };
+    if names_limit(last, text) {
+        return with_limiting(before, text);
     }
     let asked = with_text(b"trace", last, text);
     Wanted {
         asked,
         limit: before.limit,
-        limiting,
+        limiting: false,
     }
 }
 
@@ -150,17 +150,4 @@ pub fn gathered() -> Wanted {
         i += 1;
     }
     complete(all)
-}
-
-// Whether a text names an option that a value follows.
-pub fn takes_value(text: &[u8]) -> bool {
-    if check::same(text, b"--limit") {
-        return true;
-    }
-    match kind(text) {
-        Argument::Steps => true,
-        Argument::Store => true,
-        Argument::Input => true,
-        _ => false,
-    }
 }

@@ -1,4 +1,4 @@
-// What --help prints.
+// What --help and -h print.
 use libc::STDOUT_FILENO;
 use listing::print::text;
 
@@ -16,8 +16,9 @@ fn put_options() {
     text(b"  --input CH=VALUE  input channel CH, 0 to 15, holds VALUE, 0 to 65535\n");
     text(b"                    (default 0); may be given again, a later one wins\n");
     text(b"  --limit L         list the first L steps only (default: all)\n");
-    text(b"  --help            this text\n\n");
-    text(b"Options hold for all files, wherever they stand.\n\n");
+    text(b"  -h, --help        this text\n\n");
+    text(b"A value may also stand behind =, as --steps=5. Options hold for all files,\n");
+    text(b"wherever they stand.\n\n");
 }
 
 pub fn put_help() {

@@ -1,16 +1,18 @@
 // trace: runs images one step at a time and shows what each step does.
 // trace [--steps N] [--store W] [--input CH=VALUE].. [--limit L] FILE..
+// An option's value may also stand in its own argument, as --steps=N.
 mod arguments;
 mod help;
 mod show;
 mod steps;
 
 use crate::arguments::gathered;
-use crate::arguments::takes_value;
 use crate::steps::traced;
 use console::fault;
 use console::files::Filled;
 use console::files::contents;
+use console::options;
+use console::options::Argument;
 use console::options::Options;
 use console::print::Place;
 use console::print::reading;
@@ -198,13 +200,15 @@ fn put_argument(
     if is_value {
         return false;
     }
-    let mut name = io::buffer();
-    let n = os::arg(i, &mut name);
-    if takes_value(&name[..n]) {
-        return true;
+    let mut text = io::buffer();
+    let n = os::arg(i, &mut text);
+    match options::kind(&text[..n]) {
+        Argument::File => {
+            put_file(&text[..n], store, before, options, limit);
+            false
+        }
+        _ => !options::has_value(&text[..n]),
     }
-    put_file(&name[..n], store, before, options, limit);
-    false
 }
 
 fn put_files(store: &mut [u16], before: &mut [u16], options: Options, limit: u32) {

@@ -25,6 +25,9 @@ returns-2 : tie.Need-returns-2
 unfolding kindOf
 returns-2 c = rw (sym (c .before .before .before .before .same .ensures) ∙ c .before .before .before .if1 .left, sym (c .before .same2 .ensures) ∙ c .if2 .taken)
 
+name-requires : tie.Need-name-requires
+name-requires c κs = search needs
+
 slice-aggregate-same-3 : tie.Need-slice-aggregate-same-3
 slice-aggregate-same-3 c = search needs
 
@@ -33,7 +36,7 @@ same-requires-3 c κs = search needs
 
 returns-3 : tie.Need-returns-3
 unfolding kindOf
-returns-3 c = rw (sym (c .before .before .before .before .before .before .before .same .ensures) ∙ c .before .before .before .before .before .before .if1 .left, sym (c .before .before .before .before .same2 .ensures) ∙ c .before .before .before .if2 .left, sym (c .before .same3 .ensures) ∙ c .if3 .taken)
+returns-3 c = rw (← c .before .before .before .name .ensures, sym (c .before .before .before .before .before .before .before .before .same .ensures) ∙ c .before .before .before .before .before .before .before .if1 .left, sym (c .before .before .before .before .before .same2 .ensures) ∙ c .before .before .before .before .if2 .left, sym (c .before .same3 .ensures) ∙ c .if3 .taken)
 
 slice-aggregate-same-4 : tie.Need-slice-aggregate-same-4
 slice-aggregate-same-4 c = search needs
@@ -43,22 +46,32 @@ same-requires-4 c κs = search needs
 
 returns-4 : tie.Need-returns-4
 unfolding kindOf
-returns-4 c = rw (sym (c .before .before .before .before .before .before .before .before .before .before .same .ensures) ∙ c .before .before .before .before .before .before .before .before .before .if1 .left, sym (c .before .before .before .before .before .before .before .same2 .ensures) ∙ c .before .before .before .before .before .before .if2 .left, sym (c .before .before .before .before .same3 .ensures) ∙ c .before .before .before .if3 .left, sym (c .before .same4 .ensures) ∙ c .if4 .taken)
+returns-4 c = rw (← c .before .before .before .before .before .before .name .ensures, sym (c .before .before .before .before .before .before .before .before .before .before .before .same .ensures) ∙ c .before .before .before .before .before .before .before .before .before .before .if1 .left, sym (c .before .before .before .before .before .before .before .before .same2 .ensures) ∙ c .before .before .before .before .before .before .before .if2 .left, sym (c .before .before .before .before .same3 .ensures) ∙ c .before .before .before .if3 .left, sym (c .before .same4 .ensures) ∙ c .if4 .taken)
+
+slice-aggregate-same-5 : tie.Need-slice-aggregate-same-5
+slice-aggregate-same-5 c = search needs
+
+same-requires-5 : tie.Need-same-requires-5
+same-requires-5 c κs = search needs
 
 returns-5 : tie.Need-returns-5
 unfolding kindOf
-returns-5 c = rw (sym (c .before .before .before .before .before .before .before .before .before .before .before .same .ensures) ∙ c .before .before .before .before .before .before .before .before .before .before .if1 .left, sym (c .before .before .before .before .before .before .before .before .same2 .ensures) ∙ c .before .before .before .before .before .before .before .if2 .left, sym (c .before .before .before .before .before .same3 .ensures) ∙ c .before .before .before .before .if3 .left, sym (c .before .before .same4 .ensures) ∙ c .before .if4 .left, lt-ltb _ _ (c .if5 .taken))
-
-shared-slice-read-if6 : tie.Need-shared-slice-read-if6
-shared-slice-read-if6 c = search needs
+returns-5 c = rw (← c .before .before .before .before .before .before .before .before .before .name .ensures, sym (c .before .before .before .before .before .before .before .before .before .before .before .before .before .before .same .ensures) ∙ c .before .before .before .before .before .before .before .before .before .before .before .before .before .if1 .left, sym (c .before .before .before .before .before .before .before .before .before .before .before .same2 .ensures) ∙ c .before .before .before .before .before .before .before .before .before .before .if2 .left, sym (c .before .before .before .before .before .before .before .same3 .ensures) ∙ c .before .before .before .before .before .before .if3 .left, sym (c .before .before .before .before .same4 .ensures) ∙ c .before .before .before .if4 .left, sym (c .before .same5 .ensures) ∙ c .if5 .taken)
 
 returns-6 : tie.Need-returns-6
 unfolding kindOf
-returns-6 c = rw (sym (c .before .before .before .before .before .before .before .before .before .before .before .before .before .same .ensures) ∙ c .before .before .before .before .before .before .before .before .before .before .before .before .if1 .left, sym (c .before .before .before .before .before .before .before .before .before .before .same2 .ensures) ∙ c .before .before .before .before .before .before .before .before .before .if2 .left, sym (c .before .before .before .before .before .before .before .same3 .ensures) ∙ c .before .before .before .before .before .before .if3 .left, sym (c .before .before .before .before .same4 .ensures) ∙ c .before .before .before .if4 .left, le-ltb _ _ (c .before .before .if5 .left), eq-eqb _ _ (c .if6 .taken))
+returns-6 c = rw (← c .before .before .before .before .before .before .before .before .before .before .name .ensures, sym (c .before .before .before .before .before .before .before .before .before .before .before .before .before .before .before .same .ensures) ∙ c .before .before .before .before .before .before .before .before .before .before .before .before .before .before .if1 .left, sym (c .before .before .before .before .before .before .before .before .before .before .before .before .same2 .ensures) ∙ c .before .before .before .before .before .before .before .before .before .before .before .if2 .left, sym (c .before .before .before .before .before .before .before .before .same3 .ensures) ∙ c .before .before .before .before .before .before .before .if3 .left, sym (c .before .before .before .before .before .same4 .ensures) ∙ c .before .before .before .before .if4 .left, sym (c .before .before .same5 .ensures) ∙ c .before .if5 .left, lt-ltb _ _ (c .if6 .taken))
+
+shared-slice-read-if7 : tie.Need-shared-slice-read-if7
+shared-slice-read-if7 c = search needs
 
 returns-7 : tie.Need-returns-7
 unfolding kindOf
-returns-7 c = rw (sym (c .before .before .before .before .before .before .before .before .before .before .before .before .before .same .ensures) ∙ c .before .before .before .before .before .before .before .before .before .before .before .before .if1 .left, sym (c .before .before .before .before .before .before .before .before .before .before .same2 .ensures) ∙ c .before .before .before .before .before .before .before .before .before .if2 .left, sym (c .before .before .before .before .before .before .before .same3 .ensures) ∙ c .before .before .before .before .before .before .if3 .left, sym (c .before .before .before .before .same4 .ensures) ∙ c .before .before .before .if4 .left, le-ltb _ _ (c .before .before .if5 .left), ne-eqb _ _ (c .if6 .left))
+returns-7 c = rw (← c .before .before .before .before .before .before .before .before .before .before .before .before .name .ensures, sym (c .before .before .before .before .before .before .before .before .before .before .before .before .before .before .before .before .before .same .ensures) ∙ c .before .before .before .before .before .before .before .before .before .before .before .before .before .before .before .before .if1 .left, sym (c .before .before .before .before .before .before .before .before .before .before .before .before .before .before .same2 .ensures) ∙ c .before .before .before .before .before .before .before .before .before .before .before .before .before .if2 .left, sym (c .before .before .before .before .before .before .before .before .before .before .same3 .ensures) ∙ c .before .before .before .before .before .before .before .before .before .if3 .left, sym (c .before .before .before .before .before .before .before .same4 .ensures) ∙ c .before .before .before .before .before .before .if4 .left, sym (c .before .before .before .before .same5 .ensures) ∙ c .before .before .before .if5 .left, le-ltb _ _ (c .before .before .if6 .left), eq-eqb _ _ (c .if7 .taken))
+
+returns-8 : tie.Need-returns-8
+unfolding kindOf
+returns-8 c = rw (← c .before .before .before .before .before .before .before .before .before .before .before .before .name .ensures, sym (c .before .before .before .before .before .before .before .before .before .before .before .before .before .before .before .before .before .same .ensures) ∙ c .before .before .before .before .before .before .before .before .before .before .before .before .before .before .before .before .if1 .left, sym (c .before .before .before .before .before .before .before .before .before .before .before .before .before .before .same2 .ensures) ∙ c .before .before .before .before .before .before .before .before .before .before .before .before .before .if2 .left, sym (c .before .before .before .before .before .before .before .before .before .before .same3 .ensures) ∙ c .before .before .before .before .before .before .before .before .before .if3 .left, sym (c .before .before .before .before .before .before .before .same4 .ensures) ∙ c .before .before .before .before .before .before .if4 .left, sym (c .before .before .before .before .same5 .ensures) ∙ c .before .before .before .if5 .left, le-ltb _ _ (c .before .before .if6 .left), ne-eqb _ _ (c .if7 .left))
 
 pub kind-spec : {M : Type 1} → statement M
 kind-spec =
@@ -70,13 +83,17 @@ kind-spec =
     slice-aggregate-same-2
     same-requires-2
     returns-2
+    name-requires
     slice-aggregate-same-3
     same-requires-3
     returns-3
     slice-aggregate-same-4
     same-requires-4
     returns-4
+    slice-aggregate-same-5
+    same-requires-5
     returns-5
-    shared-slice-read-if6
     returns-6
-    returns-7)
+    shared-slice-read-if7
+    returns-7
+    returns-8)

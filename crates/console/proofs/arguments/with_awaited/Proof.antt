@@ -1,0 +1,79 @@
+use mathlib.Core.Path.{ap, _∙_}
+use Rattle.console.specs.Asks.{withValue}
+use Rattle.console.proofs.Asking.{says-by}
+use borrow.Author.Needs.{needs}
+use Rattle.console.proofs.arguments.with_awaited.Statement.{statement}
+use Rattle.console.proofs.arguments.with_awaited.Tie as tie
+
+enum-told : tie.Need-enum-told
+enum-told c = search needs
+
+enum-told-2 : tie.Need-enum-told-2
+enum-told-2 c = search needs
+
+steps-requires : tie.Need-steps-requires
+steps-requires c κs = search needs
+
+slice-aggregate-with-value : tie.Need-slice-aggregate-with-value
+slice-aggregate-with-value c = search needs
+
+with-value-requires : tie.Need-with-value-requires
+with-value-requires c κs = search needs
+
+enum-told-3 : tie.Need-enum-told-3
+enum-told-3 c = search needs
+
+store-requires : tie.Need-store-requires
+store-requires c κs = search needs
+
+slice-aggregate-with-value-2 : tie.Need-slice-aggregate-with-value-2
+slice-aggregate-with-value-2 c = search needs
+
+with-value-requires-2 : tie.Need-with-value-requires-2
+with-value-requires-2 c κs = search needs
+
+enum-told-4 : tie.Need-enum-told-4
+enum-told-4 c = search needs
+
+input-requires : tie.Need-input-requires
+input-requires c κs = search needs
+
+slice-aggregate-with-value-3 : tie.Need-slice-aggregate-with-value-3
+slice-aggregate-with-value-3 c = search needs
+
+with-value-requires-3 : tie.Need-with-value-requires-3
+with-value-requires-3 c κs = search needs
+
+returns : tie.Need-returns
+returns c = says-by (c .before .before .before .before .args .asked) (c .before .before .before .before .args .text .now) _ (c .enum-told .given .1)
+
+returns-2 : tie.Need-returns-2
+returns-2 c = c .with-value .ensures ∙ ap (withValue (c .before .before .before .before .before .before .before .args .asked)) (c .before .before .steps .ensures) ∙ says-by (c .before .before .before .before .before .before .before .args .asked) (c .before .before .before .before .before .before .before .args .text .now) _ (c .before .before .before .enum-told2 .given .1)
+
+returns-3 : tie.Need-returns-3
+returns-3 c = c .with-value2 .ensures ∙ ap (withValue (c .before .before .before .before .before .before .before .args .asked)) (c .before .before .store .ensures) ∙ says-by (c .before .before .before .before .before .before .before .args .asked) (c .before .before .before .before .before .before .before .args .text .now) _ (c .before .before .before .enum-told3 .given .1)
+
+returns-4 : tie.Need-returns-4
+returns-4 c = c .with-value3 .ensures ∙ ap (withValue (c .before .before .before .before .before .before .before .args .asked)) (c .before .before .input .ensures) ∙ says-by (c .before .before .before .before .before .before .before .args .asked) (c .before .before .before .before .before .before .before .args .text .now) _ (c .before .before .before .enum-told4 .given .1)
+
+pub with-awaited-spec : {M : Type 1} → statement M
+with-awaited-spec =
+    tie.close
+    (tie.spec
+    enum-told
+    enum-told-2
+    steps-requires
+    slice-aggregate-with-value
+    with-value-requires
+    enum-told-3
+    store-requires
+    slice-aggregate-with-value-2
+    with-value-requires-2
+    enum-told-4
+    input-requires
+    slice-aggregate-with-value-3
+    with-value-requires-3
+    returns
+    returns-2
+    returns-3
+    returns-4)

@@ -1,4 +1,6 @@
 // A module's code, one line an instruction.
+use listing::block::Block;
+use listing::block::text;
 use listing::bytes::byte_from;
 use listing::instruction::Instruction;
 use listing::instruction::instruction_at;
@@ -7,7 +9,6 @@ use listing::print::hex;
 use listing::print::instruction;
 use listing::print::named;
 use listing::print::right;
-use listing::print::text;
 use listing::procedure::entered;
 use listing::search::marked_from;
 use mcode::Module;
@@ -16,55 +17,62 @@ ghost use Prim.Native.Nat.{_<_};
 ghost use lib.ListN.{length};
 
 // The columns: position, depth, bytes, instruction.
-pub fn put_columns() {
-    text(b"   pos  depth  bytes     instruction\n");
+pub fn put_columns(out: &mut Block, used: &mut usize) {
+    text(out, used, b"   pos  depth  bytes     instruction\n");
 }
 
-pub fn put_place(p: usize) {
-    right(p as u64, 6);
+pub fn put_place(out: &mut Block, used: &mut usize, p: usize) {
+    right(out, used, p as u64, 6);
 }
 
-fn put_depth(depth: u8) {
-    right(depth as u64, 7);
-    blanks(2);
+fn put_depth(out: &mut Block, used: &mut usize, depth: u8) {
+    right(out, used, depth as u64, 7);
+    blanks(out, used, 2);
 }
 
-pub fn put_no_depth() {
-    text(b"      -  ");
+pub fn put_no_depth(out: &mut Block, used: &mut usize) {
+    text(out, used, b"      -  ");
 }
 
 // A line for each procedure that enters at p.
-pub fn put_labels(image: &[u8], m: Module, p: u16) {
+pub fn put_labels(out: &mut Block, used: &mut usize, image: &[u8], m: Module, p: u16) {
     let count = depths::rules::proc_count(m);
     let mut i = entered(image, m, p, 0);
     while i < count {
-        named(b"procedure ", i as u64);
-        text(b":\n");
+        named(out, used, b"procedure ", i as u64);
+        text(out, used, b":\n");
         i = entered(image, m, p, i + 1);
     }
 }
 
 // The bytes of the code from a to e.
-pub fn put_bytes(image: &[u8], m: Module, a: usize, e: usize) {
+pub fn put_bytes(out: &mut Block, used: &mut usize, image: &[u8], m: Module, a: usize, e: usize) {
     let mut p = a;
     while p < e {
-        hex(byte_from(image, m.code, p));
-        text(b" ");
+        hex(out, used, byte_from(image, m.code, p));
+        text(out, used, b" ");
         p += 1;
     }
 }
 
 // The bytes and the words of a listed instruction.
-pub fn put_instruction(image: &[u8], m: Module, p: u16, i: Instruction) {
+pub fn put_instruction(
+    out: &mut Block,
+    used: &mut usize,
+    image: &[u8],
+    m: Module,
+    p: u16,
+    i: Instruction,
+) {
     let at = p as usize;
     let size = i.size as usize;
-    put_bytes(image, m, at, at + size);
+    put_bytes(out, used, image, m, at, at + size);
     if size < 3 {
-        blanks(3 * (3 - size));
+        blanks(out, used, 3 * (3 - size));
     }
-    blanks(1);
-    instruction(i);
-    text(b"\n");
+    blanks(out, used, 1);
+    instruction(out, used, i);
+    text(out, used, b"\n");
 }
 
 // The next position to look at, and the end of what the lines before it show.
@@ -78,12 +86,19 @@ fn largest(a: usize, b: usize) -> usize {
 }
 
 // A marked instruction.
-fn put_marked(image: &[u8], m: Module, p: u16, depth: u8) -> usize {
-    put_labels(image, m, p);
+fn put_marked(
+    out: &mut Block,
+    used: &mut usize,
+    image: &[u8],
+    m: Module,
+    p: u16,
+    depth: u8,
+) -> usize {
+    put_labels(out, used, image, m, p);
     let i = instruction_at(image, m, p);
-    put_place(p as usize);
-    put_depth(depth);
-    put_instruction(image, m, p, i);
+    put_place(out, used, p as usize);
+    put_depth(out, used, depth);
+    put_instruction(out, used, image, m, p, i);
     p as usize + i.size as usize
 }
 
@@ -100,20 +115,34 @@ fn unmarked_end(marks: &[u8], at: usize) -> usize
 }
 
 // Bytes that no marked instruction covers, from `at` on. Answers where they end.
-fn put_unreached(image: &[u8], m: Module, marks: &[u8], at: usize) -> usize
+fn put_unreached(
+    out: &mut Block,
+    used: &mut usize,
+    image: &[u8],
+    m: Module,
+    marks: &[u8],
+    at: usize,
+) -> usize
     requires { ⌜ at < 65536 ⌝ }
     ensures { λ r. ⌜ at < r ⌝ }
 {
     let e = unmarked_end(marks, at);
-    put_place(at);
-    put_no_depth();
-    put_bytes(image, m, at, e);
-    text(b" unreached\n");
+    put_place(out, used, at);
+    put_no_depth(out, used);
+    put_bytes(out, used, image, m, at, e);
+    text(out, used, b" unreached\n");
     e
 }
 
 // The line at a position: an instruction where it is marked, nothing where an instruction before it covers it, else bytes.
-fn put_line(image: &[u8], m: Module, marks: &[u8], here: Place) -> Place
+fn put_line(
+    out: &mut Block,
+    used: &mut usize,
+    image: &[u8],
+    m: Module,
+    marks: &[u8],
+    here: Place,
+) -> Place
     requires { ⌜ (here .at < length (now marks)) × (here .at < 65536) ⌝ }
     ensures { λ r. ⌜ here .at < r .at ⌝ }
 {
@@ -121,7 +150,7 @@ fn put_line(image: &[u8], m: Module, marks: &[u8], here: Place) -> Place
     let shown = here.shown;
     let depth = marks[at];
     if depth != 0xff {
-        let e = put_marked(image, m, at as u16, depth);
+        let e = put_marked(out, used, image, m, at as u16, depth);
         return Place {
             at: at + 1,
             shown: largest(shown, e),
@@ -130,16 +159,16 @@ fn put_line(image: &[u8], m: Module, marks: &[u8], here: Place) -> Place
     if at < shown {
         return Place { at: at + 1, shown };
     }
-    let e = put_unreached(image, m, marks, at);
+    let e = put_unreached(out, used, image, m, marks, at);
     Place { at: e, shown }
 }
 
 // The code by the marks of its positions: every byte stands in a line.
-pub fn put_code(image: &[u8], m: Module, marks: &[u8])
+pub fn put_code(out: &mut Block, used: &mut usize, image: &[u8], m: Module, marks: &[u8])
     requires { ⌜ length (now marks) ≡ m .length ⌝ }
 {
     let mut here = Place { at: 0, shown: 0 };
     while here.at < marks.len() {
-        here = put_line(image, m, marks, here);
+        here = put_line(out, used, image, m, marks, here);
     }
 }

@@ -1,9 +1,12 @@
 // What --help and -h print.
 use libc::STDOUT_FILENO;
-use listing::print::text;
 
 pub fn put_usage(fd: i32) {
     io::write_all(fd, b"usage: list FILE..\n");
+}
+
+fn text(letters: &[u8]) {
+    io::write_all(STDOUT_FILENO, letters);
 }
 
 fn put_columns() {

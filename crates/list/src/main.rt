@@ -13,7 +13,9 @@ use console::print::complaint;
 use console::print::refusal;
 use console::print::unreadable;
 use libc::STDERR_FILENO;
-use libc::STDOUT_FILENO;
+use listing::block::Block;
+use listing::block::flush;
+use listing::block::text;
 
 // What an argument is.
 enum Asked {
@@ -70,21 +72,29 @@ fn is_asked(count: usize) -> bool {
 }
 
 // An image of n bytes. A blank line stands between two listings.
-fn list_bytes(i: usize, name: &[u8], image: &mut [u8], n: usize, map: &mut [u8]) {
+fn list_bytes(
+    out: &mut Block,
+    used: &mut usize,
+    i: usize,
+    name: &[u8],
+    image: &mut [u8],
+    n: usize,
+    map: &mut [u8],
+) {
     if 65535 < n {
         refusal(b"list", name, 1, Place::Unknown);
         return;
     }
     if 1 < i {
-        io::write_all(STDOUT_FILENO, b"\n");
+        text(out, used, b"\n");
     }
     if n <= image.len() {
-        show::put_image(name, &mut image[0..n], map);
+        show::put_image(out, used, name, &mut image[0..n], map);
     }
 }
 
 // The file that an argument names.
-fn list_file(i: usize) {
+fn list_file(out: &mut Block, used: &mut usize, i: usize) {
     let mut buffer = io::buffer();
     let length = os::arg(i, &mut buffer);
     let name = &buffer[..length];
@@ -92,14 +102,16 @@ fn list_file(i: usize) {
     let mut map = io::large_buffer();
     match contents(b"list", name, &mut image) {
         Filled::Failed => {}
-        Filled::Bytes(n) => list_bytes(i, name, &mut image, n, &mut map),
+        Filled::Bytes(n) => list_bytes(out, used, i, name, &mut image, n, &mut map),
     }
 }
 
-fn list_files(count: usize) {
+// What is listed of a file is written before the next one is read.
+fn list_files(count: usize, out: &mut Block, used: &mut usize) {
     let mut i = 1usize;
     while i < count {
-        list_file(i);
+        list_file(out, used, i);
+        flush(out, used);
         i += 1;
     }
 }
@@ -107,6 +119,8 @@ fn list_files(count: usize) {
 fn main() {
     let count = os::arg_count();
     if is_asked(count) {
-        list_files(count);
+        let mut out = io::large_buffer();
+        let mut used = 0usize;
+        list_files(count, &mut out, &mut used);
     }
 }

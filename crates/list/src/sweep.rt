@@ -4,10 +4,11 @@ use crate::code::put_instruction;
 use crate::code::put_labels;
 use crate::code::put_no_depth;
 use crate::code::put_place;
+use listing::block::Block;
+use listing::block::text;
 use listing::instruction::Instruction;
 use listing::instruction::instruction_at;
 use listing::print::octal;
-use listing::print::text;
 use listing::procedure::entered;
 use mcode::Module;
 ghost use Prim.Native.Nat.{_<_};
@@ -40,59 +41,64 @@ fn free_size(image: &[u8], m: Module, p: u16, size: u8) -> u8
 }
 
 // A byte that begins no instruction of this code.
-fn put_bare(image: &[u8], m: Module, p: u16, i: Instruction) {
+fn put_bare(out: &mut Block, used: &mut usize, image: &[u8], m: Module, p: u16, i: Instruction) {
     let at = p as usize;
-    put_bytes(image, m, at, at + 1);
-    text(b"       ");
+    put_bytes(out, used, image, m, at, at + 1);
+    text(out, used, b"       ");
     if mcode::opcode::length_of(i.op) == 0 {
-        text(b"not listed: ");
-        octal(i.op);
-        text(b"\n");
+        text(out, used, b"not listed: ");
+        octal(out, used, i.op);
+        text(out, used, b"\n");
         return;
     }
-    text(b"operands past the code: ");
-    octal(i.op);
-    text(b"\n");
+    text(out, used, b"operands past the code: ");
+    octal(out, used, i.op);
+    text(out, used, b"\n");
 }
 
 // The first bytes of an instruction, of which an entry leaves 1 or 2.
-fn put_cut(image: &[u8], m: Module, p: u16, free: u8, op: u8) {
+fn put_cut(out: &mut Block, used: &mut usize, image: &[u8], m: Module, p: u16, free: u8, op: u8) {
     let at = p as usize;
-    put_bytes(image, m, at, at + free as usize);
+    put_bytes(out, used, image, m, at, at + free as usize);
     if free < 2 {
-        text(b"   ");
+        text(out, used, b"   ");
     }
-    text(b"    a procedure enters inside: ");
-    octal(op);
-    text(b"\n");
+    text(out, used, b"    a procedure enters inside: ");
+    octal(out, used, op);
+    text(out, used, b"\n");
+}
+
+// How the line at position p begins, below its labels.
+fn put_start(out: &mut Block, used: &mut usize, image: &[u8], m: Module, p: u16) {
+    put_labels(out, used, image, m, p);
+    put_place(out, used, p as usize);
+    put_no_depth(out, used);
 }
 
 // The line at position p, and the next position.
-fn put_swept(image: &[u8], m: Module, p: u16) -> usize
+fn put_swept(out: &mut Block, used: &mut usize, image: &[u8], m: Module, p: u16) -> usize
     ensures { λ r. ⌜ p < r ⌝ }
 {
     let at = p as usize;
-    put_labels(image, m, p);
+    put_start(out, used, image, m, p);
     let i = instruction_at(image, m, p);
-    put_place(at);
-    put_no_depth();
     if i.size == 0 {
-        put_bare(image, m, p, i);
+        put_bare(out, used, image, m, p, i);
         return at + 1;
     }
     let free = free_size(image, m, p, i.size);
     if free < i.size {
-        put_cut(image, m, p, free, i.op);
+        put_cut(out, used, image, m, p, free, i.op);
         return at + free as usize;
     }
-    put_instruction(image, m, p, i);
+    put_instruction(out, used, image, m, p, i);
     at + i.size as usize
 }
 
-pub fn put_sweep(image: &[u8], m: Module) {
+pub fn put_sweep(out: &mut Block, used: &mut usize, image: &[u8], m: Module) {
     let length = m.length as usize;
     let mut at = 0usize;
     while at < length {
-        at = put_swept(image, m, at as u16);
+        at = put_swept(out, used, image, m, at as u16);
     }
 }

@@ -1,3 +1,4 @@
 pub mod Mnemonics
 pub mod Shape
 pub mod First
+pub mod Waiting

@@ -1,4 +1,5 @@
 // What a listing of an image shows: the instructions with their names and operands, the procedures, and searches over words and marks.
+pub mod block;
 pub mod bytes;
 pub mod instruction;
 pub mod names;

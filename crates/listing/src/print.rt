@@ -1,4 +1,7 @@
-// Printing to standard output, in columns. What is printed stands in no contract: only how many columns it takes.
+// Printing in columns, into a buffer of which `used` bytes wait for standard output (block.rt). What is printed stands in no contract:
+// only how many columns it takes.
+use crate::block::Block;
+use crate::block::text;
 use crate::instruction::Instruction;
 use crate::instruction::Operand;
 use crate::instruction::operand_of;
@@ -7,33 +10,29 @@ ghost use Prim.Native.Nat.{_≤_};
 
 const DIGITS: [u8; 16] = *b"0123456789ABCDEF";
 
-pub fn text(letters: &[u8]) {
-    io::write_all(1, letters);
-}
-
 // At most 32 blanks.
-pub fn blanks(n: usize) {
+pub fn blanks(out: &mut Block, used: &mut usize, n: usize) {
     let line = [b' '; 32];
     let all: &[u8] = &line;
     if n <= all.len() {
-        io::write_all(1, &all[0..n]);
+        text(out, used, &all[0..n]);
     }
 }
 
-// Blanks up to a width, of which some columns are used.
-pub fn fill(used: usize, width: usize) {
-    if used < width {
-        blanks(width - used);
+// Blanks up to a width, of which some columns are taken.
+pub fn fill(out: &mut Block, used: &mut usize, taken: usize, width: usize) {
+    if taken < width {
+        blanks(out, used, width - taken);
     }
 }
 
 // A number, and how many digits it has.
-pub fn number(n: u64) -> usize
+pub fn number(out: &mut Block, used: &mut usize, n: u64) -> usize
     ensures { λ r. ⌜ r ≤ 20 ⌝ }
 {
     let mut digits = [0u8; 20];
     let count = io::decimal(n, &mut digits);
-    io::write_all(1, &digits[..count]);
+    text(out, used, &digits[..count]);
     if count <= 20 {
         return count;
     }
@@ -41,30 +40,30 @@ pub fn number(n: u64) -> usize
 }
 
 // A number at the right end of its column.
-pub fn right(n: u64, width: usize) {
+pub fn right(out: &mut Block, used: &mut usize, n: u64, width: usize) {
     let mut digits = [0u8; 20];
     let count = io::decimal(n, &mut digits);
-    fill(count, width);
-    io::write_all(1, &digits[..count]);
+    fill(out, used, count, width);
+    text(out, used, &digits[..count]);
 }
 
-pub fn named(letters: &[u8], n: u64) {
-    text(letters);
-    number(n);
+pub fn named(out: &mut Block, used: &mut usize, letters: &[u8], n: u64) {
+    text(out, used, letters);
+    number(out, used, n);
 }
 
 // A byte as two hexadecimal digits.
-pub fn hex(byte: u8) {
+pub fn hex(out: &mut Block, used: &mut usize, byte: u8) {
     let high = (byte / 16) as usize;
     let low = (byte % 16) as usize;
     let both = [DIGITS[high], DIGITS[low]];
-    io::write_all(1, &both);
+    text(out, used, &both);
 }
 
 // A byte as three octal digits.
-pub fn octal(byte: u8) {
+pub fn octal(out: &mut Block, used: &mut usize, byte: u8) {
     let digits = [b'0' + byte / 64, b'0' + byte / 8 % 8, b'0' + byte % 8];
-    io::write_all(1, &digits);
+    text(out, used, &digits);
 }
 
 // The letters of a name before its blanks.
@@ -86,51 +85,51 @@ fn name_length(name: [u8; 5]) -> usize
     5
 }
 
-fn name(op: u8) -> usize
+fn name(out: &mut Block, used: &mut usize, op: u8) -> usize
     ensures { λ r. ⌜ r ≤ 5 ⌝ }
 {
     let letters = name_of(op);
     let n = name_length(letters);
     let all: &[u8] = &letters;
     if n <= all.len() {
-        io::write_all(1, &all[0..n]);
+        text(out, used, &all[0..n]);
     }
     n
 }
 
-fn spaced(n: u64) -> usize
+fn spaced(out: &mut Block, used: &mut usize, n: u64) -> usize
     ensures { λ r. ⌜ r ≤ 21 ⌝ }
 {
-    text(b" ");
-    1 + number(n)
+    text(out, used, b" ");
+    1 + number(out, used, n)
 }
 
-fn pair(first: u8, second: u8) -> usize
+fn pair(out: &mut Block, used: &mut usize, first: u8, second: u8) -> usize
     ensures { λ r. ⌜ r ≤ 42 ⌝ }
 {
-    let columns = spaced(first as u64);
-    columns + spaced(second as u64)
+    let columns = spaced(out, used, first as u64);
+    columns + spaced(out, used, second as u64)
 }
 
-fn operands(i: Instruction) -> usize
+fn operands(out: &mut Block, used: &mut usize, i: Instruction) -> usize
     ensures { λ r. ⌜ r ≤ 42 ⌝ }
 {
     let operand = operand_of(i.op);
     match operand {
         Operand::Nothing => 0,
-        Operand::Byte => spaced(i.first as u64),
-        Operand::Word => spaced(i.first as u64 * 256 + i.second as u64),
-        Operand::Jump => spaced(i.target as u64),
-        Operand::Global => pair(i.first, i.second),
-        Operand::Call => spaced(i.first as u64),
-        Operand::FarCall => pair(i.first, i.second),
+        Operand::Byte => spaced(out, used, i.first as u64),
+        Operand::Word => spaced(out, used, i.first as u64 * 256 + i.second as u64),
+        Operand::Jump => spaced(out, used, i.target as u64),
+        Operand::Global => pair(out, used, i.first, i.second),
+        Operand::Call => spaced(out, used, i.first as u64),
+        Operand::FarCall => pair(out, used, i.first, i.second),
     }
 }
 
 // A listed instruction with its operands, as LIB 200; a jump shows the position that it goes to. Answers how many columns it takes.
-pub fn instruction(i: Instruction) -> usize
+pub fn instruction(out: &mut Block, used: &mut usize, i: Instruction) -> usize
     ensures { λ r. ⌜ r ≤ 47 ⌝ }
 {
-    let columns = name(i.op);
-    columns + operands(i)
+    let columns = name(out, used, i.op);
+    columns + operands(out, used, i)
 }

@@ -1,6 +1,5 @@
 // What --help and -h print.
 use libc::STDOUT_FILENO;
-use listing::print::text;
 
 pub fn put_usage(fd: i32) {
     io::write_all(
@@ -8,6 +7,10 @@ pub fn put_usage(fd: i32) {
         b"usage: trace [--steps N] [--store W] [--input CH=VALUE].. [--limit L]",
     );
     io::write_all(fd, b" FILE..\n");
+}
+
+fn text(letters: &[u8]) {
+    io::write_all(STDOUT_FILENO, letters);
 }
 
 fn put_options() {

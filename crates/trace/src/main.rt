@@ -15,6 +15,7 @@ use console::options;
 use console::options::Argument;
 use console::options::Options;
 use console::print::Place;
+use console::print::line_end;
 use console::print::reading;
 use console::print::refusal;
 use console::print::refused_as;
@@ -23,7 +24,9 @@ use engine::run::Ran;
 use engine::start::start;
 use libc::STDERR_FILENO;
 use libc::STDOUT_FILENO;
-use listing::print::text;
+use listing::block::Block;
+use listing::block::flush;
+use listing::block::text;
 use mcode::Ending;
 use mcode::Machine;
 ghost use Prim.Native.Nat.{_≤_};
@@ -39,27 +42,36 @@ fn store_words(chosen: usize, most: usize) -> usize
 }
 
 // The refusal of an image of n bytes: in the place of its trace, and on standard error.
-fn put_refusal(name: &[u8], image: &mut [u8], n: usize, number: u16) {
+fn put_refusal(
+    out: &mut Block,
+    used: &mut usize,
+    name: &[u8],
+    image: &mut [u8],
+    n: usize,
+    number: u16,
+) {
     if n <= image.len() {
         let place = fault::place(&mut image[0..n], number);
-        refused_as(STDOUT_FILENO, number, place);
-        text(b"\n");
+        if flush(out, used) {
+            refused_as(STDOUT_FILENO, number, place);
+            line_end();
+        }
         refusal(b"trace", name, number, place);
     }
 }
 
-// The stop in words, and the two lines of the reading.
+// The stop in words, and the two lines of the reading, behind all that was to be written before.
 fn put_end(ran: Ran, outputs: [u16; 16]) {
     let ending = ran.ending;
     match ending {
         Ending::Refused(number) => {
             refused_as(STDOUT_FILENO, number, Place::Unknown);
-            text(b"\n");
+            line_end();
         }
         Ending::Stopped(stop) => {
-            text(b"stopped: ");
+            io::write_all(STDOUT_FILENO, b"stopped: ");
             words::stop(STDOUT_FILENO, mcode::stop_number(stop));
-            text(b"\n");
+            io::write_all(STDOUT_FILENO, b"\n");
             let machine = ran.machine;
             reading(stop, ran.count, machine, outputs);
         }
@@ -76,12 +88,14 @@ fn put_steps(
     inputs: [u16; 16],
     n: u32,
     limit: u32,
+    out: &mut Block,
+    used: &mut usize,
 ) {
     let parsed = image::read_image(image);
     let program = parsed.program;
     let mut outputs = [0u16; 16];
     let mut last = [0u16; 16];
-    show::put_columns();
+    show::put_columns(out, used);
     let ran = traced(
         machine,
         image,
@@ -94,8 +108,12 @@ fn put_steps(
         limit,
         before,
         &mut last,
+        out,
+        used,
     );
-    put_end(ran, outputs);
+    if flush(out, used) {
+        put_end(ran, outputs);
+    }
 }
 
 // The trace of an image that load accepts, or the number of start's refusal.
@@ -106,6 +124,8 @@ fn put_run(
     before: &mut [u16],
     options: Options,
     limit: u32,
+    out: &mut Block,
+    used: &mut usize,
 ) -> u16 {
     let started = start(image, store);
     let number = started.number;
@@ -124,6 +144,8 @@ fn put_run(
         inputs,
         options.steps,
         limit,
+        out,
+        used,
     );
     0
 }
@@ -136,6 +158,8 @@ fn put_image(
     before: &mut [u16],
     options: Options,
     limit: u32,
+    out: &mut Block,
+    used: &mut usize,
 ) -> u16 {
     let number = engine::load::load(image, map);
     if 1 <= number {
@@ -150,6 +174,8 @@ fn put_image(
         &mut before[..v],
         options,
         limit,
+        out,
+        used,
     )
 }
 
@@ -166,25 +192,54 @@ fn put_bytes(
     before: &mut [u16],
     options: Options,
     limit: u32,
+    out: &mut Block,
+    used: &mut usize,
 ) {
     if 65535 < n {
         refusal(b"trace", name, 1, Place::Unknown);
         return;
     }
-    text(name);
-    text(b":\n");
+    text(out, used, name);
+    text(out, used, b":\n");
     let mut map = io::large_buffer();
-    let number = put_image(first(image, n), &mut map, store, before, options, limit);
+    let number = put_image(
+        first(image, n),
+        &mut map,
+        store,
+        before,
+        options,
+        limit,
+        out,
+        used,
+    );
     if 1 <= number {
-        put_refusal(name, image, n, number);
+        put_refusal(out, used, name, image, n, number);
     }
 }
 
-fn put_file(name: &[u8], store: &mut [u16], before: &mut [u16], options: Options, limit: u32) {
+fn put_file(
+    name: &[u8],
+    store: &mut [u16],
+    before: &mut [u16],
+    options: Options,
+    limit: u32,
+    out: &mut Block,
+    used: &mut usize,
+) {
     let mut image = io::large_buffer();
     match contents(b"trace", name, &mut image) {
         Filled::Failed => {}
-        Filled::Bytes(n) => put_bytes(name, &mut image, n, store, before, options, limit),
+        Filled::Bytes(n) => put_bytes(
+            name,
+            &mut image,
+            n,
+            store,
+            before,
+            options,
+            limit,
+            out,
+            used,
+        ),
     }
 }
 
@@ -196,27 +251,36 @@ fn put_argument(
     before: &mut [u16],
     options: Options,
     limit: u32,
+    out: &mut Block,
+    used: &mut usize,
 ) -> bool {
     if is_value {
         return false;
     }
-    let mut text = io::buffer();
-    let n = os::arg(i, &mut text);
-    match options::kind(&text[..n]) {
+    let mut word = io::buffer();
+    let n = os::arg(i, &mut word);
+    match options::kind(&word[..n]) {
         Argument::File => {
-            put_file(&text[..n], store, before, options, limit);
+            put_file(&word[..n], store, before, options, limit, out, used);
             false
         }
-        _ => !options::has_value(&text[..n]),
+        _ => !options::has_value(&word[..n]),
     }
 }
 
-fn put_files(store: &mut [u16], before: &mut [u16], options: Options, limit: u32) {
+fn put_files(
+    store: &mut [u16],
+    before: &mut [u16],
+    options: Options,
+    limit: u32,
+    out: &mut Block,
+    used: &mut usize,
+) {
     let count = os::arg_count();
     let mut is_value = false;
     let mut i = 1usize;
     while i < count {
-        is_value = put_argument(i, is_value, store, before, options, limit);
+        is_value = put_argument(i, is_value, store, before, options, limit, out, used);
         i += 1;
     }
 }
@@ -237,6 +301,15 @@ fn main() {
     }
     let mut store = [0u16; 65536];
     let mut before = [0u16; 65536];
+    let mut out = io::large_buffer();
+    let mut used = 0usize;
     let options = asked.options;
-    put_files(&mut store, &mut before, options, all.limit);
+    put_files(
+        &mut store,
+        &mut before,
+        options,
+        all.limit,
+        &mut out,
+        &mut used,
+    );
 }

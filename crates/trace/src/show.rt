@@ -1,5 +1,8 @@
 // What a step shows: its number, module, position, instruction, the operand stack before and after it, and what it changed.
 use engine::run::Ran;
+use listing::block::Block;
+use listing::block::text;
+use listing::bytes::word_at;
 use listing::instruction::instruction_at;
 use listing::print::blanks;
 use listing::print::fill;
@@ -7,52 +10,56 @@ use listing::print::instruction;
 use listing::print::named;
 use listing::print::number;
 use listing::print::right;
-use listing::print::text;
 use listing::search::changed;
 use mcode::Machine;
 use mcode::Program;
 use mcode::Registers;
 
-pub fn put_columns() {
-    text(b"  step  module    pos  instruction   stack\n");
+pub fn put_columns(out: &mut Block, used: &mut usize) {
+    text(out, used, b"  step  module    pos  instruction   stack\n");
+}
+
+// Word i of a row.
+fn put_word(out: &mut Block, used: &mut usize, i: usize, word: u16) {
+    if 0 < i {
+        text(out, used, b" ");
+    }
+    number(out, used, word as u64);
 }
 
 // The words on the operand stack, the top one last.
-fn put_stack(machine: Machine) {
+fn put_stack(out: &mut Block, used: &mut usize, machine: Machine) {
     let registers = machine.registers;
     let stack = machine.stack;
     let depth = registers.depth;
-    text(b"[");
+    text(out, used, b"[");
     let mut i = 0usize;
     while i < 16 {
         if i < depth {
-            if 0 < i {
-                text(b" ");
-            }
-            number(stack[i] as u64);
+            put_word(out, used, i, stack[i]);
         }
         i += 1;
     }
-    text(b"]");
+    text(out, used, b"]");
 }
 
 // A register, where it changed.
-fn put_register(letters: &[u8], before: u16, after: u16) {
+fn put_register(out: &mut Block, used: &mut usize, letters: &[u8], before: u16, after: u16) {
     if before != after {
-        text(b"        ");
-        named(letters, before as u64);
-        named(b" -> ", after as u64);
-        text(b"\n");
+        text(out, used, b"        ");
+        named(out, used, letters, before as u64);
+        named(out, used, b" -> ", after as u64);
+        text(out, used, b"\n");
     }
 }
 
-fn put_registers(before: Registers, after: Registers) {
-    put_register(b"module ", before.unit as u16, after.unit as u16);
-    put_register(b"L ", before.l.0, after.l.0);
-    put_register(b"S ", before.s.0, after.s.0);
-    put_register(b"H ", before.h.0, after.h.0);
-    put_register(b"P ", before.p.0, after.p.0);
-    put_register(b"M ", before.mask, after.mask);
+fn put_registers(out: &mut Block, used: &mut usize, before: Registers, after: Registers) {
+    put_register(out, used, b"module ", before.unit as u16, after.unit as u16);
+    put_register(out, used, b"L ", before.l.0, after.l.0);
+    put_register(out, used, b"S ", before.s.0, after.s.0);
+    put_register(out, used, b"H ", before.h.0, after.h.0);
+    put_register(out, used, b"P ", before.p.0, after.p.0);
+    put_register(out, used, b"M ", before.mask, after.mask);
 }
 
 fn set(words: &mut [u16], i: usize, word: u16) {
@@ -61,60 +68,84 @@ fn set(words: &mut [u16], i: usize, word: u16) {
     }
 }
 
-fn put_change(before: u16, after: u16) {
-    named(b": ", before as u64);
-    named(b" -> ", after as u64);
+fn put_change(out: &mut Block, used: &mut usize, before: u16, after: u16) {
+    named(out, used, b": ", before as u64);
+    named(out, used, b" -> ", after as u64);
+}
+
+// A word of the store that changed.
+fn put_stored(out: &mut Block, used: &mut usize, i: usize, before: u16, after: u16) {
+    named(out, used, b"        store ", i as u64);
+    put_change(out, used, before, after);
+    text(out, used, b"\n");
 }
 
 // The words of the store that changed. Afterwards `before` holds them.
-fn put_store(before: &mut [u16], store: &[u16]) {
+fn put_store(out: &mut Block, used: &mut usize, before: &mut [u16], store: &[u16]) {
     let mut i = changed(before, store, 0);
     while i < store.len() {
-        named(b"        store ", i as u64);
-        put_change(listing::bytes::word_at(before, i), store[i]);
-        text(b"\n");
+        put_stored(out, used, i, word_at(before, i), store[i]);
         set(before, i, store[i]);
         i = changed(before, store, i + 1);
     }
 }
 
-// The outputs that changed, each at the margin and with the step that changed it. Afterwards `last` holds them.
-fn put_outputs(last: &mut [u16], outputs: &[u16], step: u32) {
+// An output that changed, at the margin and with the step that changed it.
+fn put_output(out: &mut Block, used: &mut usize, i: usize, before: u16, after: u16, step: u32) {
+    named(out, used, b"output ", i as u64);
+    put_change(out, used, before, after);
+    named(out, used, b" (step ", step as u64);
+    text(out, used, b")\n");
+}
+
+// The outputs that changed. Afterwards `last` holds them.
+fn put_outputs(out: &mut Block, used: &mut usize, last: &mut [u16], outputs: &[u16], step: u32) {
     let mut i = changed(last, outputs, 0);
     while i < outputs.len() {
-        named(b"output ", i as u64);
-        put_change(listing::bytes::word_at(last, i), outputs[i]);
-        named(b" (step ", step as u64);
-        text(b")\n");
+        put_output(out, used, i, word_at(last, i), outputs[i], step);
         set(last, i, outputs[i]);
         i = changed(last, outputs, i + 1);
     }
 }
 
 // Module, position and instruction.
-fn put_place(image: &[u8], program: Program, registers: Registers) {
+fn put_place(
+    out: &mut Block,
+    used: &mut usize,
+    image: &[u8],
+    program: Program,
+    registers: Registers,
+) {
     let unit = registers.unit as usize;
-    right(registers.unit as u64, 8);
-    right(registers.pc.0 as u64, 7);
-    blanks(2);
+    right(out, used, registers.unit as u64, 8);
+    right(out, used, registers.pc.0 as u64, 7);
+    blanks(out, used, 2);
     if unit < 32 {
         let m = program.modules[unit];
         let i = instruction_at(image, m, registers.pc.0);
-        let columns = instruction(i);
-        fill(columns, 14);
+        let columns = instruction(out, used, i);
+        fill(out, used, columns, 14);
     }
 }
 
 // The instruction at which the run stops is no step: it changes nothing.
-fn put_stopping(image: &[u8], program: Program, machine: Machine) {
+fn put_stopping(
+    out: &mut Block,
+    used: &mut usize,
+    image: &[u8],
+    program: Program,
+    machine: Machine,
+) {
     let registers = machine.registers;
-    text(b"     -");
-    put_place(image, program, registers);
-    put_stack(machine);
-    text(b"\n");
+    text(out, used, b"     -");
+    put_place(out, used, image, program, registers);
+    put_stack(out, used, machine);
+    text(out, used, b"\n");
 }
 
 fn put_done(
+    out: &mut Block,
+    used: &mut usize,
     before: Machine,
     after: Machine,
     program: Program,
@@ -125,18 +156,20 @@ fn put_done(
 ) {
     let registers = before.registers;
     let next = after.registers;
-    right(step as u64, 6);
-    put_place(image, program, registers);
-    put_stack(before);
-    text(b" -> ");
-    put_stack(after);
-    text(b"\n");
-    put_registers(registers, next);
-    put_store(words, store);
+    right(out, used, step as u64, 6);
+    put_place(out, used, image, program, registers);
+    put_stack(out, used, before);
+    text(out, used, b" -> ");
+    put_stack(out, used, after);
+    text(out, used, b"\n");
+    put_registers(out, used, registers, next);
+    put_store(out, used, words, store);
 }
 
 // Beyond the limit no step is listed.
 fn put_listed(
+    out: &mut Block,
+    used: &mut usize,
     ran: Ran,
     next: Ran,
     program: Program,
@@ -150,15 +183,27 @@ fn put_listed(
     }
     let before = ran.machine;
     if next.count == ran.count {
-        put_stopping(image, program, before);
+        put_stopping(out, used, image, program, before);
         return;
     }
     let after = next.machine;
-    put_done(before, after, program, image, next.count, words, store);
+    put_done(
+        out,
+        used,
+        before,
+        after,
+        program,
+        image,
+        next.count,
+        words,
+        store,
+    );
 }
 
 // A turn of the run, from `ran` to `next`.
 pub fn put_step(
+    out: &mut Block,
+    used: &mut usize,
     ran: Ran,
     next: Ran,
     program: Program,
@@ -169,6 +214,6 @@ pub fn put_step(
     last: &mut [u16],
     outputs: &[u16],
 ) {
-    put_listed(ran, next, program, image, limit, words, store);
-    put_outputs(last, outputs, next.count);
+    put_listed(out, used, ran, next, program, image, limit, words, store);
+    put_outputs(out, used, last, outputs, next.count);
 }

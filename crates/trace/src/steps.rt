@@ -2,6 +2,7 @@
 use crate::show::put_step;
 use engine::run::Ran;
 use engine::run::run;
+use listing::block::Block;
 use mcode::Ending;
 use mcode::Machine;
 use mcode::Program;
@@ -66,6 +67,8 @@ fn turns(
     limit: u32,
     before: &mut [u16],
     last: &mut [u16],
+    out: &mut Block,
+    used: &mut usize,
 ) -> Done
     ensures { λ r. ⌜ (answered (r .ran) (now (store .exit)) (now (outputs .exit)) ≡ runOf (now (image .entry)) (now (map .entry)) (now (inputs .entry)) (r .done) (state machine (now (store .entry)) (now (outputs .entry)))) × (r .done ≤ n) ⌝ }
 {
@@ -74,6 +77,8 @@ fn turns(
     while done < n {
         let next = more(ran, image, map, store, outputs, inputs, 1);
         put_step(
+            out,
+            used,
             ran,
             next,
             program,
@@ -108,6 +113,8 @@ pub fn traced(
     limit: u32,
     before: &mut [u16],
     last: &mut [u16],
+    out: &mut Block,
+    used: &mut usize,
 ) -> Ran
     ensures { λ r. ⌜ answered r (now (store .exit)) (now (outputs .exit)) ≡ runOf (now (image .entry)) (now (map .entry)) (now (inputs .entry)) n (state machine (now (store .entry)) (now (outputs .entry))) ⌝ }
 {
@@ -123,6 +130,8 @@ pub fn traced(
         limit,
         before,
         last,
+        out,
+        used,
     );
     let ran = t.ran;
     let done = t.done;

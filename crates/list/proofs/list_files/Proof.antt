@@ -5,16 +5,19 @@ use Rattle.list.proofs.list_files.Statement.{statement}
 use Rattle.list.proofs.list_files.Tie as tie
 
 abbrev Inv-loop : tie.InvT-loop
-Inv-loop count i₀ i = Unit {0}
+Inv-loop count out₀ used₀ i₀ out used i = Unit {0}
 
 abbrev μ-loop : tie.MeasureT-loop
-μ-loop count i₀ i = count - i
+μ-loop count out₀ used₀ i₀ out used i = count - i
 
 loop-holds : tie.Need-loop-holds Inv-loop μ-loop
 loop-holds c = tt
 
 list-file-requires : tie.Need-list-file-requires Inv-loop μ-loop
 list-file-requires c κs = search needs
+
+flush-requires : tie.Need-flush-requires Inv-loop μ-loop
+flush-requires c κs = search needs
 
 add-i : tie.Need-add-i Inv-loop μ-loop
 add-i c = search needs
@@ -36,6 +39,7 @@ list-files-spec =
     μ-loop
     loop-holds
     list-file-requires
+    flush-requires
     add-i
     loop-less
     loop-again

@@ -7,10 +7,10 @@ use Rattle.trace.proofs.put_files.Statement.{statement}
 use Rattle.trace.proofs.put_files.Tie as tie
 
 abbrev Inv-loop : tie.InvT-loop
-Inv-loop store₀ before₀ options limit count is-value₀ i₀ store before is-value i = (length store ≡ length store₀) × (length before ≡ length before₀)
+Inv-loop store₀ before₀ options limit out₀ used₀ count is-value₀ i₀ store before out used is-value i = (length store ≡ length store₀) × (length before ≡ length before₀)
 
 abbrev μ-loop : tie.MeasureT-loop
-μ-loop store₀ before₀ options limit count is-value₀ i₀ store before is-value i = count - i
+μ-loop store₀ before₀ options limit out₀ used₀ count is-value₀ i₀ store before out used is-value i = count - i
 
 arg-count-requires : tie.Need-arg-count-requires Inv-loop μ-loop
 arg-count-requires c κs = search needs

@@ -5,10 +5,10 @@ use Rattle.list.proofs.code.put_bytes.Statement.{statement}
 use Rattle.list.proofs.code.put_bytes.Tie as tie
 
 abbrev Inv-loop : tie.InvT-loop
-Inv-loop image m a e p₀ t6 p = Unit {0}
+Inv-loop out₀ used₀ image m a e p₀ t6 out used p = Unit {0}
 
 abbrev μ-loop : tie.MeasureT-loop
-μ-loop image m a e p₀ t6 p = e - p
+μ-loop out₀ used₀ image m a e p₀ t6 out used p = e - p
 
 loop-holds : tie.Need-loop-holds Inv-loop μ-loop
 loop-holds c = tt

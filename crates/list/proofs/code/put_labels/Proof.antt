@@ -5,10 +5,10 @@ use Rattle.list.proofs.code.put_labels.Statement.{statement}
 use Rattle.list.proofs.code.put_labels.Tie as tie
 
 abbrev Inv-loop : tie.InvT-loop
-Inv-loop image m p count i₀ t6 t7 i = Unit {0}
+Inv-loop out₀ used₀ image m p count i₀ t6 t7 out used i = Unit {0}
 
 abbrev μ-loop : tie.MeasureT-loop
-μ-loop image m p count i₀ t6 t7 i = count - i
+μ-loop out₀ used₀ image m p count i₀ t6 t7 out used i = count - i
 
 proc-count-requires : tie.Need-proc-count-requires Inv-loop μ-loop
 proc-count-requires c κs = search needs

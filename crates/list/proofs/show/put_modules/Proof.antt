@@ -5,10 +5,10 @@ use Rattle.list.proofs.show.put_modules.Statement.{statement}
 use Rattle.list.proofs.show.put_modules.Tie as tie
 
 abbrev Inv-loop : tie.InvT-loop
-Inv-loop image map mapped program k₀ k = Unit {0}
+Inv-loop out₀ used₀ image map mapped program k₀ out used k = Unit {0}
 
 abbrev μ-loop : tie.MeasureT-loop
-μ-loop image map mapped program k₀ k = 32 - k
+μ-loop out₀ used₀ image map mapped program k₀ out used k = 32 - k
 
 loop-holds : tie.Need-loop-holds Inv-loop μ-loop
 loop-holds c = tt

@@ -5,10 +5,10 @@ use Rattle.list.proofs.show.put_procedures.Statement.{statement}
 use Rattle.list.proofs.show.put_procedures.Tie as tie
 
 abbrev Inv-loop : tie.InvT-loop
-Inv-loop image m count i₀ i = count < 65536
+Inv-loop out₀ used₀ image m count i₀ out used i = count < 65536
 
 abbrev μ-loop : tie.MeasureT-loop
-μ-loop image m count i₀ i = count - i
+μ-loop out₀ used₀ image m count i₀ out used i = count - i
 
 proc-count-requires : tie.Need-proc-count-requires Inv-loop μ-loop
 proc-count-requires c κs = search needs

@@ -5,10 +5,10 @@ use Rattle.list.proofs.sweep.put_sweep.Statement.{statement}
 use Rattle.list.proofs.sweep.put_sweep.Tie as tie
 
 abbrev Inv-loop : tie.InvT-loop
-Inv-loop image m length at₀ at = length < 65536
+Inv-loop out₀ used₀ image m length at₀ out used at = length < 65536
 
 abbrev μ-loop : tie.MeasureT-loop
-μ-loop image m length at₀ at = length - at
+μ-loop out₀ used₀ image m length at₀ out used at = length - at
 
 cast-length : tie.Need-cast-length Inv-loop μ-loop
 cast-length c = search needs

@@ -7,10 +7,10 @@ use Rattle.trace.proofs.show.put_outputs.Statement.{statement}
 use Rattle.trace.proofs.show.put_outputs.Tie as tie
 
 abbrev Inv-loop : tie.InvT-loop
-Inv-loop last₀ outputs step i₀ t5 t6 t7 last i = length last ≡ length last₀
+Inv-loop out₀ used₀ last₀ outputs step i₀ out used last i = length last ≡ length last₀
 
 abbrev μ-loop : tie.MeasureT-loop
-μ-loop last₀ outputs step i₀ t5 t6 t7 last i = length outputs - i
+μ-loop out₀ used₀ last₀ outputs step i₀ out used last i = length outputs - i
 
 changed-requires : tie.Need-changed-requires Inv-loop μ-loop
 changed-requires c κs = search needs
@@ -18,35 +18,17 @@ changed-requires c κs = search needs
 loop-holds : tie.Need-loop-holds Inv-loop μ-loop
 loop-holds c = refl
 
-slice-aggregate-named : tie.Need-slice-aggregate-named Inv-loop μ-loop
-slice-aggregate-named c = search needs
-
-named-requires : tie.Need-named-requires Inv-loop μ-loop
-named-requires c κs = search needs
-
 word-at-requires : tie.Need-word-at-requires Inv-loop μ-loop
 word-at-requires c κs = search needs
 
-mul-put-change : tie.Need-mul-put-change Inv-loop μ-loop
-mul-put-change c = search needs
+mul-put-output : tie.Need-mul-put-output Inv-loop μ-loop
+mul-put-output c = search needs
 
-shared-slice-read-put-change : tie.Need-shared-slice-read-put-change Inv-loop μ-loop
-shared-slice-read-put-change c = search needs
+shared-slice-read-put-output : tie.Need-shared-slice-read-put-output Inv-loop μ-loop
+shared-slice-read-put-output c = search needs
 
-put-change-requires : tie.Need-put-change-requires Inv-loop μ-loop
-put-change-requires c κs = search needs
-
-slice-aggregate-named-2 : tie.Need-slice-aggregate-named-2 Inv-loop μ-loop
-slice-aggregate-named-2 c = search needs
-
-named-requires-2 : tie.Need-named-requires-2 Inv-loop μ-loop
-named-requires-2 c κs = search needs
-
-slice-aggregate-text : tie.Need-slice-aggregate-text Inv-loop μ-loop
-slice-aggregate-text c = search needs
-
-text-requires : tie.Need-text-requires Inv-loop μ-loop
-text-requires c κs = search needs
+put-output-requires : tie.Need-put-output-requires Inv-loop μ-loop
+put-output-requires c κs = search needs
 
 mul-set : tie.Need-mul-set Inv-loop μ-loop
 mul-set c = search needs
@@ -83,16 +65,10 @@ put-outputs-spec =
     μ-loop
     changed-requires
     loop-holds
-    slice-aggregate-named
-    named-requires
     word-at-requires
-    mul-put-change
-    shared-slice-read-put-change
-    put-change-requires
-    slice-aggregate-named-2
-    named-requires-2
-    slice-aggregate-text
-    text-requires
+    mul-put-output
+    shared-slice-read-put-output
+    put-output-requires
     mul-set
     shared-slice-read-set
     set-requires

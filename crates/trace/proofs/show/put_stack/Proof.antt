@@ -5,10 +5,10 @@ use Rattle.trace.proofs.show.put_stack.Statement.{statement}
 use Rattle.trace.proofs.show.put_stack.Tie as tie
 
 abbrev Inv-loop : tie.InvT-loop
-Inv-loop stack depth i₀ t7 t8 i = Unit {0}
+Inv-loop out₀ used₀ stack depth i₀ t9 out used i = Unit {0}
 
 abbrev μ-loop : tie.MeasureT-loop
-μ-loop stack depth i₀ t7 t8 i = 16 - i
+μ-loop out₀ used₀ stack depth i₀ t9 out used i = 16 - i
 
 slice-aggregate-text : tie.Need-slice-aggregate-text Inv-loop μ-loop
 slice-aggregate-text c = search needs
@@ -19,23 +19,14 @@ text-requires c κs = search needs
 loop-holds : tie.Need-loop-holds Inv-loop μ-loop
 loop-holds c = tt
 
-slice-aggregate-text-2 : tie.Need-slice-aggregate-text-2 Inv-loop μ-loop
-slice-aggregate-text-2 c = search needs
+mul-put-word : tie.Need-mul-put-word Inv-loop μ-loop
+mul-put-word c = search needs
 
-text-requires-2 : tie.Need-text-requires-2 Inv-loop μ-loop
-text-requires-2 c κs = search needs
+array-read-put-word : tie.Need-array-read-put-word Inv-loop μ-loop
+array-read-put-word c = search needs
 
-mul-number : tie.Need-mul-number Inv-loop μ-loop
-mul-number c = search needs
-
-array-read-number : tie.Need-array-read-number Inv-loop μ-loop
-array-read-number c = search needs
-
-cast-number : tie.Need-cast-number Inv-loop μ-loop
-cast-number c = search needs
-
-number-requires : tie.Need-number-requires Inv-loop μ-loop
-number-requires c κs = search needs
+put-word-requires : tie.Need-put-word-requires Inv-loop μ-loop
+put-word-requires c κs = search needs
 
 add-i : tie.Need-add-i Inv-loop μ-loop
 add-i c = search needs
@@ -46,11 +37,11 @@ loop-less c = search needs
 loop-again : tie.Need-loop-again Inv-loop μ-loop
 loop-again c = tt
 
-slice-aggregate-text-3 : tie.Need-slice-aggregate-text-3 Inv-loop μ-loop
-slice-aggregate-text-3 c = search needs
+slice-aggregate-text-2 : tie.Need-slice-aggregate-text-2 Inv-loop μ-loop
+slice-aggregate-text-2 c = search needs
 
-text-requires-3 : tie.Need-text-requires-3 Inv-loop μ-loop
-text-requires-3 c κs = search needs
+text-requires-2 : tie.Need-text-requires-2 Inv-loop μ-loop
+text-requires-2 c κs = search needs
 
 returns : tie.Need-returns Inv-loop μ-loop
 returns c = search needs
@@ -64,15 +55,12 @@ put-stack-spec =
     slice-aggregate-text
     text-requires
     loop-holds
-    slice-aggregate-text-2
-    text-requires-2
-    mul-number
-    array-read-number
-    cast-number
-    number-requires
+    mul-put-word
+    array-read-put-word
+    put-word-requires
     add-i
     loop-less
     loop-again
-    slice-aggregate-text-3
-    text-requires-3
+    slice-aggregate-text-2
+    text-requires-2
     returns)

@@ -7,10 +7,10 @@ use Rattle.trace.proofs.show.put_store.Statement.{statement}
 use Rattle.trace.proofs.show.put_store.Tie as tie
 
 abbrev Inv-loop : tie.InvT-loop
-Inv-loop before₀ store i₀ t4 t5 before i = length before ≡ length before₀
+Inv-loop out₀ used₀ before₀ store i₀ out used before i = length before ≡ length before₀
 
 abbrev μ-loop : tie.MeasureT-loop
-μ-loop before₀ store i₀ t4 t5 before i = length store - i
+μ-loop out₀ used₀ before₀ store i₀ out used before i = length store - i
 
 changed-requires : tie.Need-changed-requires Inv-loop μ-loop
 changed-requires c κs = search needs
@@ -18,29 +18,17 @@ changed-requires c κs = search needs
 loop-holds : tie.Need-loop-holds Inv-loop μ-loop
 loop-holds c = refl
 
-slice-aggregate-named : tie.Need-slice-aggregate-named Inv-loop μ-loop
-slice-aggregate-named c = search needs
-
-named-requires : tie.Need-named-requires Inv-loop μ-loop
-named-requires c κs = search needs
-
 word-at-requires : tie.Need-word-at-requires Inv-loop μ-loop
 word-at-requires c κs = search needs
 
-mul-put-change : tie.Need-mul-put-change Inv-loop μ-loop
-mul-put-change c = search needs
+mul-put-stored : tie.Need-mul-put-stored Inv-loop μ-loop
+mul-put-stored c = search needs
 
-shared-slice-read-put-change : tie.Need-shared-slice-read-put-change Inv-loop μ-loop
-shared-slice-read-put-change c = search needs
+shared-slice-read-put-stored : tie.Need-shared-slice-read-put-stored Inv-loop μ-loop
+shared-slice-read-put-stored c = search needs
 
-put-change-requires : tie.Need-put-change-requires Inv-loop μ-loop
-put-change-requires c κs = search needs
-
-slice-aggregate-text : tie.Need-slice-aggregate-text Inv-loop μ-loop
-slice-aggregate-text c = search needs
-
-text-requires : tie.Need-text-requires Inv-loop μ-loop
-text-requires c κs = search needs
+put-stored-requires : tie.Need-put-stored-requires Inv-loop μ-loop
+put-stored-requires c κs = search needs
 
 mul-set : tie.Need-mul-set Inv-loop μ-loop
 mul-set c = search needs
@@ -77,14 +65,10 @@ put-store-spec =
     μ-loop
     changed-requires
     loop-holds
-    slice-aggregate-named
-    named-requires
     word-at-requires
-    mul-put-change
-    shared-slice-read-put-change
-    put-change-requires
-    slice-aggregate-text
-    text-requires
+    mul-put-stored
+    shared-slice-read-put-stored
+    put-stored-requires
     mul-set
     shared-slice-read-set
     set-requires

@@ -17,7 +17,7 @@ sub-more c = search needs
 more-requires : tie.Need-more-requires
 more-requires c κs =
     let h : c .before .before .before .before .before .before .before .before .before .before .before .before .turns .result .ran .count ≤ c .before .before .before .before .before .before .before .before .before .before .before .before .turns .result .done = at-most _ _ _ _ _ _ (c .before .before .before .before .before .before .before .before .before .before .before .before .turns .ensures .0) in
-    omega (arith, c .before .before .before .before .before .before .before .before .before .before .before .before .before .before .before .before .before .before .before .before .before .before .before .before .fits .n)
+    omega (arith, c .before .before .before .before .before .before .before .before .before .before .before .before .before .before .before .before .before .before .before .before .before .before .before .before .before .before .fits .n)
 
 same-length : tie.Need-same-length
 same-length c = search needs
@@ -34,7 +34,7 @@ same-length-4 c = search needs
 returns : tie.Need-returns
 returns c =
     let d = c .before .before .before .before .before .before .before .before .before .before .before .before .before .before .before .before .before .turns .result .done in
-    let n = c .before .before .before .before .before .before .before .before .before .before .before .before .before .before .before .before .before .before .before .before .before .before .before .before .before .before .before .before .before .args .n in
+    let n = c .before .before .before .before .before .before .before .before .before .before .before .before .before .before .before .before .before .before .before .before .before .before .before .before .before .before .before .before .before .before .before .args .n in
     let q : d + (n - d) ≡ n = omega (arith, c .before .before .before .before .before .before .before .before .before .before .before .before .before .before .before .before .before .turns .ensures .1) in
     let l : 1 ≤ n - d = omega arith in
     all-run _ _ _ _ _ _ _ q (goes-on _ _ _ d (n - d) _ _ _ l (c .before .before .before .before .before .before .before .before .before .before .before .before .before .before .before .before .before .turns .ensures .0) (c .before .before .before .before .more .ensures))
@@ -53,7 +53,7 @@ same-length-8 c = search needs
 
 returns-2 : tie.Need-returns-2
 returns-2 c =
-    let q : c .before .before .before .before .before .before .before .before .before .before .turns .result .done ≡ c .before .before .before .before .before .before .before .before .before .before .before .before .before .before .before .before .before .before .before .before .before .before .args .n = omega (arith, c .before .before .before .before .before .before .before .before .before .before .turns .ensures .1) in
+    let q : c .before .before .before .before .before .before .before .before .before .before .turns .result .done ≡ c .before .before .before .before .before .before .before .before .before .before .before .before .before .before .before .before .before .before .before .before .before .before .before .before .args .n = omega (arith, c .before .before .before .before .before .before .before .before .before .before .turns .ensures .1) in
     all-run _ _ _ _ _ _ _ q (c .before .before .before .before .before .before .before .before .before .before .turns .ensures .0)
 
 pub traced-spec : {M : Type 1} → statement M

@@ -477,9 +477,9 @@ impl Writer<'_> {
             self.code.extend([opcode, 1 + block.len() as u8]);
             self.code.extend(block);
         } else {
+            // Too long for its jump: the condition is stored away, and one word put.
             self.code.extend([0o064]);
             self.depth -= 1;
-            self.put();
             self.put();
         }
     }

@@ -2,6 +2,7 @@
  *
  * Link with target/staticlib/libcapi.a, which `rt staticlib capi` writes (x86-64). The functions allocate nothing, keep nothing
  * between calls and write only to the buffers named below, so any number of machines may run side by side, in threads too.
+ * Of the stack, load takes about 75 KB, start 7 KB and run 13 KB (measured: bench/size, docs/PERFORMANCE.md).
  *
  * Each buffer passes as a pointer, then its length in ELEMENTS: bytes of an image or a map, words of a store, a machine, inputs or
  * outputs, numbers of an answer. The caller keeps these rules, which no function can test:

@@ -130,6 +130,21 @@ fn loads_and_stores() -> Loop {
     )
 }
 
+/// Counters in two words: of the frame, of this module, of another module, and by their address.
+fn double_words() -> Loop {
+    let body = [
+        0o041, 4, 0o023, 0, 0, 0xFF, 0xF0, 0o210, 0o061, 4, // L+4 and L+5 grow by 65,520
+        0o101, 3, 0o041, 4, 0o211, 0o121, 3, // G+3 and G+4 less that
+        0o043, 1, 4, 0o101, 3, 0o210, 0o063, 1, 4, // of module 1
+        0o024, 6, 0o025, 3, 0o202, 0o222, // to a from another address
+        0o024, 4, 0o025, 3, 0o201, 2, 0o221, 4, // and with offsets
+    ];
+    plain(
+        "double words",
+        &[with_data(repeated(&body)), with_data(vec![0o354])],
+    )
+}
+
 /// A function of two parameters and one result, called twice a turn.
 fn local_calls() -> Loop {
     let mut code = repeated(&[1, 2, 0o361, 3, 0o360, 1, 0o064]);
@@ -244,6 +259,7 @@ pub fn loops() -> Vec<Loop> {
     vec![
         arithmetic(),
         loads_and_stores(),
+        double_words(),
         local_calls(),
         external_calls(),
         bytes(),

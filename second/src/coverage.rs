@@ -3,8 +3,10 @@
 use crate::case::{replay, Case};
 use crate::exec::Observer;
 use crate::image::parse;
+use crate::machine::Machine;
 use crate::number::*;
-use crate::opcode::{self, row};
+use crate::opcode::{self, row, PAIRS};
+use crate::pair::first_address;
 use std::fmt::Write;
 
 /// Counts of what was reached.
@@ -13,6 +15,8 @@ pub struct Coverage {
     steps: [u64; 256],
     /// Stops of each opcode, by number less 31: the end and the traps.
     stops: [[u64; 10]; 256],
+    /// Stops with 32 of each load and store of a pair, by [`FAILING`].
+    pairs: [[u64; 3]; 256],
     spent: u64,
     load: [u64; 13],
     start: [u64; 13],
@@ -31,13 +35,31 @@ const LOAD: [u8; 9] = [0, 1, 2, 3, 4, 5, 6, 7, 8];
 const START: [u8; 8] = [0, 1, 2, 3, 4, 5, 6, 9];
 const RUN: [u8; 11] = [1, 2, 3, 4, 5, 6, 7, 9, 10, 11, 12];
 
+/// What fails where a pair stops with 32. The first two must be reached: the
+/// second address alone fails where the high word is the store's last.
+const FAILING: [&str; 3] = [
+    "by its first address",
+    "by its second address alone",
+    "by neither address",
+];
+
+/// The index in [`FAILING`] of a pair at this first address.
+fn failing(first: u16, words: usize) -> usize {
+    match usize::from(first) {
+        first if first >= words => 0,
+        first if first + 1 == words => 1,
+        _ => 2,
+    }
+}
+
 /// The end and the traps that an opcode can stop with. (102–117 and 122–137
 /// cannot: a base and 15 more is below Z + 36.)
 fn possible_stops(opcode: u8) -> &'static [u8] {
     match opcode {
         0o040 | 0o042 | 0o044..=0o057 | 0o060 | 0o062 | 0o064..=0o077 => &[ADDRESS],
+        0o041 | 0o043 | 0o061 | 0o063 | 0o101 | 0o121 => &[ADDRESS],
         0o100 | 0o120 | 0o140..=0o177 => &[ADDRESS],
-        0o200 | 0o205 | 0o206 | 0o220 | 0o225 | 0o226 => &[ADDRESS],
+        0o200..=0o202 | 0o205 | 0o206 | 0o220..=0o222 | 0o225 | 0o226 => &[ADDRESS],
         0o240 => &[ADDRESS, CHANNEL],
         0o241 => &[CHANNEL],
         0o245 | 0o305 | 0o306 => &[CHECK],
@@ -59,6 +81,7 @@ impl Coverage {
         let mut coverage = Coverage {
             steps: [0; 256],
             stops: [[0; 10]; 256],
+            pairs: [[0; 3]; 256],
             spent: 0,
             load: [0; 13],
             start: [0; 13],
@@ -78,14 +101,22 @@ impl Coverage {
             let answer = run.answer;
             match answer.number {
                 SPENT => self.spent += 1,
-                ENDED..=PROGRAM => {
-                    let program = parse(&case.image).expect("it was run");
-                    let module = &program.modules[usize::from(answer.machine.module)];
-                    let position = module.code_start + usize::from(answer.machine.pc);
-                    let opcode = usize::from(case.image[position]);
-                    self.stops[opcode][usize::from(answer.number - ENDED)] += 1;
-                }
+                ENDED..=PROGRAM => self.add_stop(case, answer.number, &answer.machine),
                 refusal => self.run[usize::from(refusal)] += 1,
+            }
+        }
+    }
+
+    /// A stop of the instruction at which the machine stands.
+    fn add_stop(&mut self, case: &Case, stop: u8, machine: &Machine) {
+        let program = parse(&case.image).expect("it was run");
+        let module = &program.modules[usize::from(machine.module)];
+        let position = module.code_start + usize::from(machine.pc);
+        let opcode = usize::from(case.image[position]);
+        self.stops[opcode][usize::from(stop - ENDED)] += 1;
+        if stop == ADDRESS {
+            if let Some(first) = first_address(&program, &case.image, machine) {
+                self.pairs[opcode][failing(first, case.store_length)] += 1;
             }
         }
     }
@@ -115,6 +146,7 @@ impl Coverage {
                 }
             }
         }
+        faults.extend(self.pair_faults());
         if self.spent == 0 {
             faults.push("no run stopped with 30".into());
         }
@@ -129,6 +161,24 @@ impl Coverage {
                     (false, 1..) => faults.push(format!("{call} answered {number}")),
                     _ => {}
                 }
+            }
+        }
+        faults
+    }
+
+    /// The same for the addresses of pairs.
+    fn pair_faults(&self) -> Vec<String> {
+        let mut faults = Vec::new();
+        for opcode in PAIRS {
+            let name = format!("opcode {opcode:03o} {}", row(opcode).mnemonic);
+            let [first, second, neither] = self.pairs[usize::from(opcode)];
+            for (count, failing) in [first, second].into_iter().zip(FAILING) {
+                if count == 0 {
+                    faults.push(format!("{name} never stopped with 32 {failing}"));
+                }
+            }
+            if neither != 0 {
+                faults.push(format!("{name} stopped with 32 {}", FAILING[2]));
             }
         }
         faults
@@ -157,6 +207,14 @@ impl Coverage {
             stops.push((stop.to_string(), count));
         }
         line("run stopped", stops);
+        for (i, failing) in FAILING[..2].iter().enumerate() {
+            let pair = |opcode: u8| {
+                let count = self.pairs[usize::from(opcode)][i];
+                (row(opcode).mnemonic.to_string(), count)
+            };
+            let title = format!("pairs stopped with 32 {failing}");
+            line(&title, PAIRS.map(pair).to_vec());
+        }
         let listed: Vec<u8> = opcode::listed().collect();
         for opcodes in listed.chunks(8) {
             let pair = |&opcode: &u8| {

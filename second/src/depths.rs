@@ -67,7 +67,7 @@ fn position_fits(
         // "1 left, which holds where they jump; else 0 are left"
         ORJP | ANDJP => successor(forward(), left) && successor(next, rest),
         // "Module and procedure operands must exist."
-        LEA | LEW | SEW => byte(1) < program.modules.len() && successor(next, left),
+        LEA | LEW | LED | SEW | SED => byte(1) < program.modules.len() && successor(next, left),
         _ => successor(next, left),
     }
 }

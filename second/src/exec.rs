@@ -109,7 +109,10 @@ pub fn execute<O: Observer>(
     }
     macro_rules! operand_word {
         () => {
-            u16::from_be_bytes([byte!(1), byte!(2)])
+            operand_word!(1, 2)
+        };
+        ($high:literal, $low:literal) => {
+            u16::from_be_bytes([byte!($high), byte!($low)])
         };
     }
     // "Address sums are modulo 65,536; one not below W is trap 32."
@@ -133,6 +136,48 @@ pub fn execute<O: Observer>(
             *at!($base, $offset) = word!(1);
             depth -= $taken;
             pc += $length;
+        }};
+    }
+    // A.1: "If either address fails, trap 32 is given and neither word is
+    // written." The same pair of addresses serves the loads and the stores.
+    macro_rules! pair_at {
+        ($base:expr, $offset:expr) => {
+            match pair(store, $base.wrapping_add(u16::from($offset))) {
+                Some(addresses) => addresses,
+                None => break (number::ADDRESS, 0),
+            }
+        };
+    }
+    // "The high word is at the first address and lies below the low word on
+    // the stack."
+    macro_rules! load_pair {
+        ($base:expr, $offset:expr, taken $taken:literal, $length:literal) => {{
+            let (high, low) = pair_at!($base, $offset);
+            depth -= $taken;
+            put!(store[high]);
+            put!(store[low]);
+            pc += $length;
+        }};
+    }
+    macro_rules! store_pair {
+        ($base:expr, $offset:expr, taken $taken:literal, $length:literal) => {{
+            let (high, low) = pair_at!($base, $offset);
+            store[high] = word!(2);
+            store[low] = word!(1);
+            depth -= $taken;
+            pc += $length;
+        }};
+    }
+    // Replaces the two top pairs by one.
+    macro_rules! two_pairs {
+        (|$lower:ident, $upper:ident| $result:expr) => {{
+            let $lower = double(word!(4), word!(3));
+            let $upper = double(word!(2), word!(1));
+            let result: u32 = $result;
+            word!(4) = (result >> 16) as u16;
+            word!(3) = result as u16;
+            depth -= 2;
+            pc += 1;
         }};
     }
     // Replaces the top word, or the two top words, by one.
@@ -222,6 +267,12 @@ pub fn execute<O: Observer>(
             0o022 => {
                 put!(operand_word!());
                 pc += 3;
+            }
+            // A.1: "LID (023, two operand words, high first)".
+            0o023 => {
+                put!(operand_word!(1, 2));
+                put!(operand_word!(3, 4));
+                pc += 5;
             }
             0o024 => {
                 put!(l.wrapping_add(u16::from(byte!(1))));
@@ -321,6 +372,26 @@ pub fn execute<O: Observer>(
             0o160..=0o177 => store!(word!(2), low, taken 2, 1),
             0o220 => store!(word!(2), byte!(1), taken 2, 2),
             0o226 => store!(word!(3), word!(2), taken 3, 1),
+
+            // A.1: "LLD 041, LED 043, LGD 101, LSD 201, LSD0 202 [...] Each
+            // addresses as its one-word form does, LSD0 and SSD0 with offset
+            // 0".
+            0o041 => load_pair!(l, byte!(1), taken 0, 2),
+            0o043 => load_pair!(base_of!(byte!(1)), byte!(2), taken 0, 3),
+            0o101 => load_pair!(here.base, byte!(1), taken 0, 2),
+            0o201 => load_pair!(word!(1), byte!(1), taken 1, 2),
+            0o202 => load_pair!(word!(1), 0u8, taken 1, 1),
+            // "SLD 061, SED 063, SGD 121, SSD 221, SSD0 222 [...] Stores take
+            // the address below the value."
+            0o061 => store_pair!(l, byte!(1), taken 2, 2),
+            0o063 => store_pair!(base_of!(byte!(1)), byte!(2), taken 2, 3),
+            0o121 => store_pair!(here.base, byte!(1), taken 2, 2),
+            0o221 => store_pair!(word!(3), byte!(1), taken 3, 2),
+            0o222 => store_pair!(word!(3), 0u8, taken 3, 1),
+            // "DADD 210 and DSUB 211 [...] Sums and differences are modulo 2
+            // to the 32nd."
+            0o210 => two_pairs!(|lower, upper| lower.wrapping_add(upper)),
+            0o211 => two_pairs!(|lower, upper| lower.wrapping_sub(upper)),
 
             // "205: byte a of the string at c; 225: byte c of the string at e
             // set to a modulo 256. Byte i is in word i div 2, even i the high
@@ -558,6 +629,20 @@ pub fn execute<O: Observer>(
         count: n - left,
         machine: gather!(),
     }
+}
+
+/// The addresses of a pair's high and low word, if both lie in the store: "the
+/// low word's address is one more, modulo 65,536".
+#[inline(always)]
+fn pair(store: &[u16], first: u16) -> Option<(usize, usize)> {
+    let high = usize::from(first);
+    let low = usize::from(first.wrapping_add(1));
+    (high < store.len() && low < store.len()).then_some((high, low))
+}
+
+/// The number whose high and low word these are.
+fn double(high: u16, low: u16) -> u32 {
+    u32::from(high) << 16 | u32::from(low)
 }
 
 /// "from L, b times the word at that address"

@@ -1,5 +1,5 @@
-//! A second interpreter of M-code, written from the paper alone, against which
-//! another engine is compared.
+//! A second interpreter of M-code, written from the paper and its change
+//! request A.1 alone, against which another engine is compared.
 //!
 //! [`load`], [`start`] and [`run`] are the paper's calls, [`desk`] is its "A
 //! whole reading". Octal literals are the paper's opcodes, and quotations in
@@ -18,6 +18,7 @@ pub mod image;
 pub mod machine;
 pub mod number;
 pub mod opcode;
+pub mod pair;
 
 pub use api::{desk, load, run, start, RunAnswer};
 pub use machine::Machine;

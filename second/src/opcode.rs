@@ -1,6 +1,7 @@
 //! "A table of 256 rows gives each opcode its length, words taken and words
 //! left; a used row has length 1 to 3, at most 3 taken and 2 left, an unused
-//! row length 0." The mnemonics are those of the published table.
+//! row length 0." A.1: "Table rows may now have length 5 and take 4 words." The
+//! mnemonics are those of the published table.
 
 /// One row of the table.
 #[derive(Clone, Copy, Debug, PartialEq, Eq)]
@@ -22,7 +23,7 @@ const UNUSED: Row = Row {
     mnemonic: "",
 };
 
-/// Opcodes that the depth rules treat by themselves.
+/// Opcodes that the depth rules or the generator treat by themselves.
 pub const JPC: u8 = 0o030;
 pub const JP: u8 = 0o031;
 pub const JPFC: u8 = 0o032;
@@ -34,6 +35,19 @@ pub const ANDJP: u8 = 0o037;
 pub const LEA: u8 = 0o027;
 pub const LEW: u8 = 0o042;
 pub const SEW: u8 = 0o062;
+pub const LID: u8 = 0o023;
+pub const LLD: u8 = 0o041;
+pub const LED: u8 = 0o043;
+pub const SLD: u8 = 0o061;
+pub const SED: u8 = 0o063;
+pub const LGD: u8 = 0o101;
+pub const SGD: u8 = 0o121;
+pub const LSD: u8 = 0o201;
+pub const LSD0: u8 = 0o202;
+pub const DADD: u8 = 0o210;
+pub const DSUB: u8 = 0o211;
+pub const SSD: u8 = 0o221;
+pub const SSD0: u8 = 0o222;
 pub const TRA: u8 = 0o256;
 pub const TRAP: u8 = 0o304;
 pub const RTN: u8 = 0o354;
@@ -42,6 +56,9 @@ pub const CI: u8 = 0o356;
 pub const CL: u8 = 0o360;
 pub const CL1: u8 = 0o361;
 pub const CL15: u8 = 0o377;
+
+/// The loads and stores of a pair of words.
+pub const PAIRS: [u8; 10] = [LLD, LED, LGD, LSD, LSD0, SLD, SED, SGD, SSD, SSD0];
 
 /// The table, indexed by opcode.
 pub const TABLE: [Row; 256] = build();
@@ -80,6 +97,7 @@ const fn build() -> [Row; 256] {
     );
     let t = set(t, 0o020, (2, 0, 1), &["LIB"]);
     let t = set(t, 0o022, (3, 0, 1), &["LIW"]);
+    let t = set(t, 0o023, (5, 0, 2), &["LID"]);
     let t = set(t, 0o024, (2, 0, 1), &["LLA", "LGA"]);
     let t = set(t, 0o026, (2, 1, 1), &["LSA"]);
     let t = set(t, 0o027, (3, 0, 1), &["LEA"]);
@@ -157,6 +175,18 @@ const fn build() -> [Row; 256] {
     );
     let t = set(t, 0o220, (2, 2, 0), &["SSW"]);
     let t = set(t, 0o225, (1, 3, 0), &["SXB", "SXW"]);
+    // Load and store a pair of words; sum and difference of two pairs.
+    let t = set(t, 0o041, (2, 0, 2), &["LLD"]);
+    let t = set(t, 0o043, (3, 0, 2), &["LED"]);
+    let t = set(t, 0o101, (2, 0, 2), &["LGD"]);
+    let t = set(t, 0o201, (2, 1, 2), &["LSD"]);
+    let t = set(t, 0o202, (1, 1, 2), &["LSD0"]);
+    let t = set(t, 0o061, (2, 2, 0), &["SLD"]);
+    let t = set(t, 0o063, (3, 2, 0), &["SED"]);
+    let t = set(t, 0o121, (2, 2, 0), &["SGD"]);
+    let t = set(t, 0o221, (2, 3, 0), &["SSD"]);
+    let t = set(t, 0o222, (1, 3, 0), &["SSD0"]);
+    let t = set(t, 0o210, (1, 4, 2), &["DADD", "DSUB"]);
     // Channels, checks, unsigned arithmetic.
     let t = set(t, 0o240, (1, 2, 0), &["READ", "WRITE"]);
     let t = set(t, 0o245, (1, 3, 1), &["UCHK"]);

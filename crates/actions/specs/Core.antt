@@ -6,9 +6,9 @@ use lib.ListN.{getD}
 use lib.Dec.{eqb}
 use Rattle.mcode.specs.Word.{pick}
 use Rattle.mcode.specs.Image.{basesOf}
-use Rattle.mcode.specs.Machine.{State, state, Outcome, go, halt, position, machine, stopNumber, stopCode}
+use Rattle.mcode.specs.Machine.{State, state, Outcome, go, halt, position, machine, pairAt, stopNumber, stopCode}
 use Rattle.mcode.specs.Decode.{Action, decodeOf}
-use Rattle.mcode.specs.Step.{Lent, performOf, computed, goes}
+use Rattle.mcode.specs.Step.{Lent, performOf, computed, goes, readsPair}
 use Rattle.mcode.specs.declared.Machine.{Machine}
 use Rattle.mcode.specs.declared.Position.{Position}
 use Rattle.mcode.specs.declared.Registers.{Registers}
@@ -55,10 +55,16 @@ replaced by to v r stack store out =
     let x = held r stack store out in
     leftBy x (computed v (λ w. goes x (by (position (to - r .start)) (x .machine) w)))
 
--- an instruction with its operand bytes
-unfoldable pub instruction : Lent → ℕ → ℕ → ℕ → Core → List ℕ → List ℕ → List ℕ → Left
-instruction lent op b c r stack store out =
-    let d = decodeOf op b c (shown r) (basesOf (lent .program)) in
+-- a pair of words that is read at a and put from place n of the stack on, or its trap
+abbrev pub fetched : ℕ → ℕ → ℕ → Core → List ℕ → List ℕ → List ℕ → Left
+fetched a n to r stack store out =
+    let x = held r stack store out in
+    leftBy x (readsPair x a (pairAt n (position (to - r .start)) (x .machine)))
+
+-- an instruction with its operand bytes: byte k is o k
+unfoldable pub instruction : Lent → ℕ → (ℕ → ℕ) → Core → List ℕ → List ℕ → List ℕ → Left
+instruction lent op o r stack store out =
+    let d = decodeOf op o (shown r) (basesOf (lent .program)) in
     acted lent (d .action) (r .pc + d .size) r stack store out
 
 -- the opcode that the stepping loop performs where its budget is spent: it is not listed, so no map marks it
@@ -66,9 +72,9 @@ abbrev pub spentOp : ℕ
 spentOp = 0o340
 
 -- an instruction, or the spent opcode: "30 spent"
-unfoldable pub performed : Lent → ℕ → ℕ → ℕ → Core → List ℕ → List ℕ → List ℕ → Left
-performed lent op b c r stack store out =
-    pick (eqb op spentOp) (record { stop = 30; code = 0; state = held r stack store out }) (instruction lent op b c r stack store out)
+unfoldable pub performed : Lent → ℕ → (ℕ → ℕ) → Core → List ℕ → List ℕ → List ℕ → Left
+performed lent op o r stack store out =
+    pick (eqb op spentOp) (record { stop = 30; code = 0; state = held r stack store out }) (instruction lent op o r stack store out)
 
 -- the module stays, and the place in its code
 pub record Stays (r q : Core) : Type 0 where

@@ -42,7 +42,7 @@ pub fn zero_word(r: Core, image: &[u8], stack: &mut [u16; 16], to: usize) -> Ste
     ensures { λ q. ⌜ ((lent : Lent) (store out : List ℕ) → result q (now (stack .exit)) store out ≡ acted lent (Act.JumpZero (position (ahead (r .pc - r .start + 1) (wordOf (operandAt (now (image .entry)) r 1) (operandAt (now (image .entry)) r 2))))) to r (now (stack .entry)) store out) × Stays r (q .core) ⌝ }
 {
     if top_of(r, stack) == 0 {
-        take_word(r, stack, forward(r, operand_word(r, image)))
+        take_word(r, stack, forward(r, operand_word(r, image, 1)))
     } else {
         take_word(r, stack, to)
     }

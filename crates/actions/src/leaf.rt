@@ -28,13 +28,13 @@ pub fn operand(r: Core, image: &[u8], k: usize) -> u16
     wide(image[i])
 }
 
-// The operand word.
-pub fn operand_word(r: Core, image: &[u8]) -> u16
-    requires { ⌜ r .pc + 2 < length (now image) ⌝ }
-    ensures { λ q. ⌜ q ≡ wordOf (operandAt (now (image .entry)) r 1) (operandAt (now (image .entry)) r 2) ⌝ }
+// The operand word from operand byte k on.
+pub fn operand_word(r: Core, image: &[u8], k: usize) -> u16
+    requires { ⌜ r .pc + (k + 1) < length (now image) ⌝ }
+    ensures { λ q. ⌜ q ≡ wordOf (operandAt (now (image .entry)) r k) (operandAt (now (image .entry)) r (k + 1)) ⌝ }
 {
-    let b = operand(r, image, 1);
-    let c = operand(r, image, 2);
+    let b = operand(r, image, k);
+    let c = operand(r, image, k + 1);
     b * 256 + c
 }
 
@@ -91,6 +91,14 @@ pub fn third_of(r: Core, stack: &[u16; 16]) -> u16
 {
     let d = r.depth;
     stack[d - 3]
+}
+
+pub fn fourth_of(r: Core, stack: &[u16; 16]) -> u16
+    requires { ⌜ (3 < r .depth) × (r .depth ≤ 16) ⌝ }
+    ensures { λ q. ⌜ q ≡ getD (now (stack .entry)) (r .depth - 4) 0 ⌝ }
+{
+    let d = r.depth;
+    stack[d - 4]
 }
 
 // The registers at a place of the code and a depth, with a stop and its code. The fields are copied one by one: a copy of the

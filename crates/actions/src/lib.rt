@@ -29,3 +29,4 @@ pub mod compute;
 pub mod jumps;
 pub mod leaf;
 pub mod memory;
+pub mod pairs;

@@ -7,7 +7,7 @@ use Prim.Native.Nat.{ℕ, _-_, _/_, _<_}
 use native.Mathlib.Omega.{arith}
 use lib.Dec.{eqb, ltb}
 use lib.ListN.{length}
-use borrow.Author.Tests.{ne-eqb, eqb-true, eqb-false}
+use borrow.Author.Tests.{eqb-true, eqb-false}
 use Rattle.mcode.specs.Word.{pick}
 use Rattle.mcode.specs.Image.{procCount}
 use Rattle.mcode.specs.Machine.{State, Outcome, halt, put}
@@ -32,11 +32,11 @@ follow-one lent q x = choose (ltb (x .machine .registers .l .0) (length (x .stor
     choose false v f = refl
 
 -- 360 to 377
-pub decoded-call : (op b c : ℕ) (r : Registers) (bases : List ℕ) → op / 16 ≡ 15 → decodeOf op b c r bases ≡ sized (pick (eqb op 0o360) 2 1) (Call (pick (eqb op 0o360) b (op - 0o360)))
+pub decoded-call : (op : ℕ) (o : ℕ → ℕ) (r : Registers) (bases : List ℕ) → op / 16 ≡ 15 → decodeOf op o r bases ≡ sized (pick (eqb op 0o360) 2 1) (Call (pick (eqb op 0o360) (o 1) (op - 0o360)))
 unfolding decodeOf row15
-decoded-call op b c r bases row = rw (row, ne-eqb op 0o42 (λ e. omega (arith, row, e)), ne-eqb op 0o62 (λ e. omega (arith, row, e))) (choose (eqb op 0o360) (op - 0o360))
+decoded-call op o r bases row = rw row (choose (eqb op 0o360) (op - 0o360))
   where
-    choose : (t : Bool) (k : ℕ) → pick t (sized 2 (Call b)) (sized 1 (Call k)) ≡ sized (pick t 2 1) (Call (pick t b k))
+    choose : (t : Bool) (k : ℕ) → pick t (sized 2 (Call (o 1))) (sized 1 (Call k)) ≡ sized (pick t 2 1) (Call (pick t (o 1) k))
     choose true k = refl
     choose false k = refl
 

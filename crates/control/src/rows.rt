@@ -37,7 +37,7 @@ pub fn row14(
     requires { ⌜ op / 16 ≡ 14 ⌝ }
     requires { ⌜ ((op ≡ spentOp → ⊥) → Controls (now image) (now table) (length (now store)) op r × Mapped (now table) (now map)) ⌝ }
     requires { ⌜ Anchored (now table) r ⌝ }
-    ensures { λ q. ⌜ ((lent : Lent) (words : List ℕ) → Lends (now (image .entry)) (now (table .entry)) (now (map .entry)) words lent → (out : List ℕ) → result q (now (stack .exit)) (now (store .exit)) out ≡ performed lent op (operandAt (now (image .entry)) r 1) (operandAt (now (image .entry)) r 2) r (now (stack .entry)) (now (store .entry)) out) × Anchored (now (table .entry)) (q .core) ⌝ }
+    ensures { λ q. ⌜ ((lent : Lent) (words : List ℕ) → Lends (now (image .entry)) (now (table .entry)) (now (map .entry)) words lent → (out : List ℕ) → result q (now (stack .exit)) (now (store .exit)) out ≡ performed lent op (operandAt (now (image .entry)) r) r (now (stack .entry)) (now (store .entry)) out) × Anchored (now (table .entry)) (q .core) ⌝ }
 {
     match op {
         0o340 => trapped(r, 30),
@@ -94,7 +94,7 @@ pub fn row15(op: u8, r: Core, image: &[u8], table: &[u16; 193], store: &mut [u16
     requires { ⌜ op / 16 ≡ 15 ⌝ }
     requires { ⌜ Controls (now image) (now table) (length (now store)) op r ⌝ }
     requires { ⌜ Anchored (now table) r ⌝ }
-    ensures { λ q. ⌜ ((lent : Lent) (marks words : List ℕ) → Lends (now (image .entry)) (now (table .entry)) marks words lent → (stack out : List ℕ) → result q stack (now (store .exit)) out ≡ instruction lent op (operandAt (now (image .entry)) r 1) (operandAt (now (image .entry)) r 2) r stack (now (store .entry)) out) × Anchored (now (table .entry)) (q .core) ⌝ }
+    ensures { λ q. ⌜ ((lent : Lent) (marks words : List ℕ) → Lends (now (image .entry)) (now (table .entry)) marks words lent → (stack out : List ℕ) → result q stack (now (store .exit)) out ≡ instruction lent op (operandAt (now (image .entry)) r) r stack (now (store .entry)) out) × Anchored (now (table .entry)) (q .core) ⌝ }
 {
     let n = callee(op, r, image);
     call(r, image, table, store, n, after_call(op, r))

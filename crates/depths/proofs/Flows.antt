@@ -57,7 +57,10 @@ one-call true f a b = refl
 one-call false f a b = refl
 
 no-module : (op : ℕ) → 0o355 ≤ op → namesModule op ≡ false
-no-module op l = simp (ne-eqb op 0o27 (λ z. omega (arith, l, z)), ne-eqb op 0o42 (λ z. omega (arith, l, z)), ne-eqb op 0o62 (λ z. omega (arith, l, z)))
+no-module op l = simp (not 0o27 (omega arith), not 0o42 (omega arith), not 0o62 (omega arith), not 0o43 (omega arith), not 0o63 (omega arith))
+  where
+    not : (k : ℕ) → k < 0o355 → eqb op k ≡ false
+    not k h = ne-eqb op k (λ z. omega (arith, l, h, z))
 
 -- the cases of an instruction's opcode
 module _ (image : List ℕ) (program : Program) (m : Module) (p op b c n e : ℕ) where

@@ -211,7 +211,7 @@ pub fn is_jump(op: u8) -> bool
     false
 }
 
-// 027, 042 and 062 name a module.
+// 027, 042, 062, 043 and 063 name a module.
 pub fn names_module(op: u8) -> bool
     ensures { λ r. ⌜ r ≡ namesModule op ⌝ }
 {
@@ -222,6 +222,12 @@ pub fn names_module(op: u8) -> bool
         return true;
     }
     if op == 0o62 {
+        return true;
+    }
+    if op == 0o43 {
+        return true;
+    }
+    if op == 0o63 {
         return true;
     }
     false

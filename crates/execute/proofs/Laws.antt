@@ -1,5 +1,5 @@
 -- A step as the instruction where the registers stand, and what the rows ask from the one table. Assumes nothing.
-use mathlib.Core.Path.{_≡_, refl, sym, _∙_}
+use mathlib.Core.Path.{_≡_, refl, sym, ap, _∙_, fun-ext}
 use mathlib.Core.Logic.{_⊎_, inl, inr}
 use mathlib.Core.Bool.{Bool, true, false, false≢true}
 use Prim.Native.Nat.{ℕ, zero, suc, _+_, _-_, _≤_, _<_, _/_}
@@ -8,7 +8,7 @@ use lib.ListN.{getD, length}
 use lib.Dec.{eqb, ltb}
 use native.Mathlib.Omega.{arith}
 use borrow.Author.Tests.{ne-eqb, eqb-true, eqb-false, ltb-true}
-use Rattle.mcode.proofs.Tests.{all-at, and-both, or-second}
+use Rattle.mcode.proofs.Tests.{all-at, and-both}
 use Rattle.mcode.specs.Word.{pick, and, or, allBelow}
 use Rattle.mcode.specs.Opcode.{lengths, takens, lefts}
 use Rattle.mcode.specs.Depths.{namesModule}
@@ -30,23 +30,27 @@ place-on h k = omega (arith, h)
 position-on : {s p : ℕ} → s ≤ p → (k : ℕ) → p + k - s ≡ p - s + k
 position-on h k = omega (arith, h)
 
-step-is : {image table map inputs : List ℕ} {lent : Lent} (r : Core) (stack store out : List ℕ) → Lends image table map inputs lent → Anchored table r
-    → instruction lent (opcodeAt image r) (operandAt image r 1) (operandAt image r 2) r stack store out ≡ leftBy (held r stack store out) (stepOf lent (held r stack store out))
-unfolding instruction stepOf
-step-is r stack store out h a = rw (h .image, h .tabled .modules (r .unit) (a .few), ← a .start, place (a .own), place-on (a .own) 1, place-on (a .own) 2, position-on (a .own))
+-- the operand bytes, as positions of the code and as places of the image
+operands-on : (image : List ℕ) {s p : ℕ} → s ≤ p → _≡_ {A = ℕ → ℕ} (λ k. getD image (s + (p - s + k)) 0) (λ k. getD image (p + k) 0)
+operands-on image h = fun-ext (λ k. ap (λ (i : ℕ). getD image i 0) (place-on h k))
 
--- ---- the rows that take and leave the same for each listed opcode: 0 and 2 to 7, by one computed test of the table
+step-is : {image table map inputs : List ℕ} {lent : Lent} (r : Core) (stack store out : List ℕ) → Lends image table map inputs lent → Anchored table r
+    → instruction lent (opcodeAt image r) (operandAt image r) r stack store out ≡ leftBy (held r stack store out) (stepOf lent (held r stack store out))
+unfolding instruction stepOf
+step-is {image} r stack store out h a = rw (h .image, h .tabled .modules (r .unit) (a .few), ← a .start, place (a .own), operands-on image (a .own), position-on (a .own))
+
+-- ---- the rows that take and leave the same for each opcode: 0, 6 and 7, by one computed test of the table
+abbrev isEven : ℕ → Bool
+isEven row = or (eqb row 0) (or (eqb row 6) (eqb row 7))
+
 abbrev rowTakes : List ℕ
-rowTakes = 0 ∷ 0 ∷ 0 ∷ 1 ∷ 0 ∷ 1 ∷ 1 ∷ 2 ∷ []
+rowTakes = 0 ∷ 0 ∷ 0 ∷ 0 ∷ 0 ∷ 0 ∷ 1 ∷ 2 ∷ []
 
 abbrev rowLeaves : List ℕ
-rowLeaves = 1 ∷ 0 ∷ 1 ∷ 0 ∷ 1 ∷ 0 ∷ 1 ∷ 0 ∷ []
+rowLeaves = 1 ∷ 0 ∷ 0 ∷ 0 ∷ 0 ∷ 0 ∷ 1 ∷ 0 ∷ []
 
 abbrev even : ℕ → Bool
-even op =
-    or (eqb (op / 16) 1)
-    (or (eqb (getD lengths op 0) 0)
-    (and (eqb (getD takens op 0) (getD rowTakes (op / 16) 0)) (eqb (getD lefts op 0) (getD rowLeaves (op / 16) 0))))
+even op = pick (isEven (op / 16)) (and (eqb (getD takens op 0) (getD rowTakes (op / 16) 0)) (eqb (getD lefts op 0) (getD rowLeaves (op / 16) 0))) true
 
 all-even : allBelow 128 even ≡ true
 unfolding allBelow lengths takens lefts
@@ -60,17 +64,13 @@ other-row {op} k row n e = eqb-false k 14 n (in-fourteen row e)
     in-fourteen row e = omega (arith, row, e)
 
 module _ {image table map : List ℕ} {w op : ℕ} {r : Core} (a : Asks image table map w op r) where
-  pub even-row : (k : ℕ) → op / 16 ≡ k → ltb k 8 ≡ true → eqb k 1 ≡ false → Needs (getD rowTakes k 0) (getD rowLeaves k 0) (getD lengths op 0) r (length image)
+  pub even-row : (k : ℕ) → op / 16 ≡ k → ltb k 8 ≡ true → isEven k ≡ true → Needs (getD rowTakes k 0) (getD rowLeaves k 0) (getD lengths op 0) r (length image)
   even-row k row h n =
       let low : op < 128 = omega (arith, row, ltb-true k 8 h) in
-      let l : 1 ≤ getD lengths op 0 = a .listed (λ e. omega (arith, low, e)) in
-      let e = and-both _ _ (or-second (eqb (getD lengths op 0) 0) _ (λ z. clash l (eqb-true _ _ z)) (or-second (eqb (op / 16) 1) _ (λ z. eqb-false k 1 n (sym row ∙ eqb-true _ _ z)) (all-at 128 even all-even op low))) in
+      let e = and-both _ _ (rw (ap isEven row ∙ n) at (all-at 128 even all-even op low)) in
       let t : getD takens op 0 ≡ getD rowTakes k 0 = rw row at (eqb-true (getD takens op 0) (getD rowTakes (op / 16) 0) (e .0)) in
       let f : getD lefts op 0 ≡ getD rowLeaves k 0 = rw row at (eqb-true (getD lefts op 0) (getD rowLeaves (op / 16) 0) (e .1)) in
       rw (t, f) at (a .controls .ready)
-    where
-      clash : 1 ≤ getD lengths op 0 → getD lengths op 0 ≡ 0 → ⊥
-      clash l z = omega (arith, z, l)
 
   -- a module operand is a module of the table
   pub within : namesModule op ≡ true → operandAt image r 1 < 32
@@ -130,14 +130,14 @@ listed-not-spent : {op : ℕ} → 1 ≤ getD lengths op 0 → op ≡ spentOp →
 unfolding lengths
 listed-not-spent {op} l e = let z : 1 ≤ 0 = rw e at l in omega (arith, z)
 
-performed-as : (lent : Lent) (op b c : ℕ) (r : Core) (stack store out : List ℕ) → (op ≡ spentOp → ⊥) → instruction lent op b c r stack store out ≡ performed lent op b c r stack store out
+performed-as : (lent : Lent) (op : ℕ) (o : ℕ → ℕ) (r : Core) (stack store out : List ℕ) → (op ≡ spentOp → ⊥) → instruction lent op o r stack store out ≡ performed lent op o r stack store out
 unfolding performed
-performed-as lent op b c r stack store out n = rw (ne-eqb op spentOp n)
+performed-as lent op o r stack store out n = rw (ne-eqb op spentOp n)
 
 -- an opcode of another row than the spent one's
-pub in-row : (lent : Lent) (op b c : ℕ) (r : Core) (stack store out : List ℕ) (k : ℕ) → op / 16 ≡ k → eqb k 14 ≡ false
-    → instruction lent op b c r stack store out ≡ performed lent op b c r stack store out
-in-row lent op b c r stack store out k row n = performed-as lent op b c r stack store out (other-row k row n)
+pub in-row : (lent : Lent) (op : ℕ) (o : ℕ → ℕ) (r : Core) (stack store out : List ℕ) (k : ℕ) → op / 16 ≡ k → eqb k 14 ≡ false
+    → instruction lent op o r stack store out ≡ performed lent op o r stack store out
+in-row lent op o r stack store out k row n = performed-as lent op o r stack store out (other-row k row n)
 
 module _ {image table map : List ℕ} {w : ℕ} {r : Core} (a : Asks image table map w (opcodeAt image r) r) where
   pub asks-turn : (n : ℕ) → Asks image table map w (chosenOp n (opcodeAt image r)) r
@@ -148,11 +148,11 @@ module _ {image table map : List ℕ} {w : ℕ} {r : Core} (a : Asks image table
       go false = a
 
   pub turn-is : {inputs : List ℕ} {lent : Lent} (stack store out : List ℕ) (n : ℕ) → Lends image table map inputs lent → 1 ≤ getD lengths (opcodeAt image r) 0
-      → performed lent (chosenOp n (opcodeAt image r)) (operandAt image r 1) (operandAt image r 2) r stack store out ≡ turned lent n (held r stack store out)
+      → performed lent (chosenOp n (opcodeAt image r)) (operandAt image r) r stack store out ≡ turned lent n (held r stack store out)
   unfolding performed
   turn-is {lent = lent} stack store out n h listed = go (eqb n 0)
     where
-      go : (spent : Bool) → performed lent (pick spent spentOp (opcodeAt image r)) (operandAt image r 1) (operandAt image r 2) r stack store out
+      go : (spent : Bool) → performed lent (pick spent spentOp (opcodeAt image r)) (operandAt image r) r stack store out
           ≡ pick spent (record { stop = 30; code = 0; state = held r stack store out }) (leftBy (held r stack store out) (stepOf lent (held r stack store out)))
       go true = refl
-      go false = sym (performed-as lent _ _ _ _ _ _ _ (listed-not-spent listed)) ∙ step-is r stack store out h (a .anchored)
+      go false = sym (performed-as lent _ _ _ _ _ _ (listed-not-spent listed)) ∙ step-is r stack store out h (a .anchored)

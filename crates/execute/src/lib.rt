@@ -45,7 +45,7 @@ fn perform(
 ) -> Stepped
     requires { ⌜ Asks (now image) (now table) (now map) (length (now store)) op r ⌝ }
     requires { ⌜ (length (now inputs) ≡ 16) × (length (now outputs) ≡ 16) ⌝ }
-    ensures { λ q. ⌜ ((lent : Lent) → Lends (now (image .entry)) (now (table .entry)) (now (map .entry)) (now (inputs .entry)) lent → result q (now (stack .exit)) (now (store .exit)) (now (outputs .exit)) ≡ performed lent op (operandAt (now (image .entry)) r 1) (operandAt (now (image .entry)) r 2) r (now (stack .entry)) (now (store .entry)) (now (outputs .entry))) × Anchored (now (table .entry)) (q .core) ⌝ }
+    ensures { λ q. ⌜ ((lent : Lent) → Lends (now (image .entry)) (now (table .entry)) (now (map .entry)) (now (inputs .entry)) lent → result q (now (stack .exit)) (now (store .exit)) (now (outputs .exit)) ≡ performed lent op (operandAt (now (image .entry)) r) r (now (stack .entry)) (now (store .entry)) (now (outputs .entry))) × Anchored (now (table .entry)) (q .core) ⌝ }
 {
     match op / 16 {
         0 => row0(op, r, stack),

@@ -55,6 +55,24 @@ pub fn put_bytes(out: &mut Block, used: &mut usize, image: &[u8], m: Module, a: 
     }
 }
 
+// The first bytes of the instruction at p, up to the next column, which begins behind three bytes; more push it to the right.
+pub fn put_bytes_column(
+    out: &mut Block,
+    used: &mut usize,
+    image: &[u8],
+    m: Module,
+    p: u16,
+    count: u8,
+) {
+    let at = p as usize;
+    let n = count as usize;
+    put_bytes(out, used, image, m, at, at + n);
+    if n < 3 {
+        blanks(out, used, 3 * (3 - n));
+    }
+    blanks(out, used, 1);
+}
+
 // The bytes and the words of a listed instruction.
 pub fn put_instruction(
     out: &mut Block,
@@ -64,13 +82,7 @@ pub fn put_instruction(
     p: u16,
     i: Instruction,
 ) {
-    let at = p as usize;
-    let size = i.size as usize;
-    put_bytes(out, used, image, m, at, at + size);
-    if size < 3 {
-        blanks(out, used, 3 * (3 - size));
-    }
-    blanks(out, used, 1);
+    put_bytes_column(out, used, image, m, p, i.size);
     instruction(out, used, i);
     text(out, used, b"\n");
 }

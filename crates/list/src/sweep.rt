@@ -1,5 +1,6 @@
 // A module's code with no depth map: one instruction behind another, from position 0 and again from each entry.
 use crate::code::put_bytes;
+use crate::code::put_bytes_column;
 use crate::code::put_instruction;
 use crate::code::put_labels;
 use crate::code::put_no_depth;
@@ -20,22 +21,30 @@ fn is_entry(image: &[u8], m: Module, at: usize) -> bool {
     entered(image, m, at as u16, 0) < depths::rules::proc_count(m)
 }
 
-// How many bytes from p on stand before an entry that lies inside of an instruction of this size.
+// Whether a procedure enters n bytes behind p, inside of an instruction of this size.
+fn enters_inside(image: &[u8], m: Module, p: u16, size: u8, n: u8) -> bool {
+    if n < size {
+        return is_entry(image, m, p as usize + n as usize);
+    }
+    false
+}
+
+// How many bytes from p on stand before an entry that lies inside of an instruction of this size, which is at most 5.
 fn free_size(image: &[u8], m: Module, p: u16, size: u8) -> u8
     requires { ⌜ 0 < size ⌝ }
     ensures { λ r. ⌜ 0 < r ⌝ }
 {
-    if size < 2 {
-        return size;
-    }
-    if is_entry(image, m, p as usize + 1) {
+    if enters_inside(image, m, p, size, 1) {
         return 1;
     }
-    if size < 3 {
-        return size;
-    }
-    if is_entry(image, m, p as usize + 2) {
+    if enters_inside(image, m, p, size, 2) {
         return 2;
+    }
+    if enters_inside(image, m, p, size, 3) {
+        return 3;
+    }
+    if enters_inside(image, m, p, size, 4) {
+        return 4;
     }
     size
 }
@@ -56,14 +65,10 @@ fn put_bare(out: &mut Block, used: &mut usize, image: &[u8], m: Module, p: u16, 
     text(out, used, b"\n");
 }
 
-// The first bytes of an instruction, of which an entry leaves 1 or 2.
+// The first bytes of an instruction, of which an entry leaves 1 to 4.
 fn put_cut(out: &mut Block, used: &mut usize, image: &[u8], m: Module, p: u16, free: u8, op: u8) {
-    let at = p as usize;
-    put_bytes(out, used, image, m, at, at + free as usize);
-    if free < 2 {
-        text(out, used, b"   ");
-    }
-    text(out, used, b"    a procedure enters inside: ");
+    put_bytes_column(out, used, image, m, p, free);
+    text(out, used, b"a procedure enters inside: ");
     octal(out, used, op);
     text(out, used, b"\n");
 }
@@ -75,24 +80,38 @@ fn put_start(out: &mut Block, used: &mut usize, image: &[u8], m: Module, p: u16)
     put_no_depth(out, used);
 }
 
+// An instruction of this code, or what an entry leaves of it. Answers the next position.
+fn put_sized(
+    out: &mut Block,
+    used: &mut usize,
+    image: &[u8],
+    m: Module,
+    p: u16,
+    i: Instruction,
+) -> usize
+    requires { ⌜ 0 < i .size ⌝ }
+    ensures { λ r. ⌜ p < r ⌝ }
+{
+    let free = free_size(image, m, p, i.size);
+    if free < i.size {
+        put_cut(out, used, image, m, p, free, i.op);
+    } else {
+        put_instruction(out, used, image, m, p, i);
+    }
+    p as usize + free as usize
+}
+
 // The line at position p, and the next position.
 fn put_swept(out: &mut Block, used: &mut usize, image: &[u8], m: Module, p: u16) -> usize
     ensures { λ r. ⌜ p < r ⌝ }
 {
-    let at = p as usize;
     put_start(out, used, image, m, p);
     let i = instruction_at(image, m, p);
     if i.size == 0 {
         put_bare(out, used, image, m, p, i);
-        return at + 1;
+        return p as usize + 1;
     }
-    let free = free_size(image, m, p, i.size);
-    if free < i.size {
-        put_cut(out, used, image, m, p, free, i.op);
-        return at + free as usize;
-    }
-    put_instruction(out, used, image, m, p, i);
-    at + i.size as usize
+    put_sized(out, used, image, m, p, i)
 }
 
 pub fn put_sweep(out: &mut Block, used: &mut usize, image: &[u8], m: Module) {

@@ -13,7 +13,7 @@ use Rattle.mcode.specs.declared.Module.{Module}
 use Rattle.depths.specs.Cases.{jumping}
 use Rattle.listing.specs.declared.instruction.Instruction.{Instruction}
 use Rattle.listing.specs.declared.instruction.Operand.{Operand}
-use Rattle.listing.specs.declared.instruction.Operand.the-variants.{Nothing, Byte, Word, Jump, Global, Call, FarCall}
+use Rattle.listing.specs.declared.instruction.Operand.the-variants.{Nothing, Byte, Word, Double, Jump, Global, Call, FarCall}
 use Rattle.listing.specs.declared.procedure.Procedure.{Procedure}
 
 -- "356 n", "360 n"
@@ -26,15 +26,17 @@ operandOf op =
     (pick (namesModule op) Global
     (pick (eqb op 0o355) FarCall
     (pick (isCall op) Call
+    (pick (eqb (getD lengths op 0) 5) Double
     (pick (eqb (getD lengths op 0) 3) Word
     (pick (eqb (getD lengths op 0) 2) Byte
-    Nothing)))))
+    Nothing))))))
 
 -- how many bytes the operands have; a jump's have as many as its row says
 abbrev pub bytesOf : ℕ → Operand → ℕ
 bytesOf op Nothing = 0
 bytesOf op Byte = 1
 bytesOf op Word = 2
+bytesOf op Double = 4
 bytesOf op Jump = pick (ltb op 0o32) 2 1
 bytesOf op Global = 2
 bytesOf op Call = 1
@@ -57,6 +59,8 @@ instructionAt image m p = record {
   size = fitting (getD lengths (codeByte image m p) 0) p (m .length);
   first = codeByte image m (p + 1);
   second = codeByte image m (p + 2);
+  third = codeByte image m (p + 3);
+  fourth = codeByte image m (p + 4);
   target = targetOf (codeByte image m p) (p + 1) (codeByte image m (p + 1)) (codeByte image m (p + 2));
 }
 

@@ -1,8 +1,8 @@
-// Bytes of an image and words of a store, 0 outside.
+// Bytes of an image and words of a store, 0 outside; the word of two bytes.
 ghost use mathlib.Core.Path.{_≡_};
 ghost use Prim.Native.Nat.{_+_};
 ghost use lib.ListN.{getD};
-ghost use Rattle.mcode.specs.Word.{byte};
+ghost use Rattle.mcode.specs.Word.{byte, wordOf};
 
 // The byte `offset` places after `start`. Neither is limited: the sum is made only where it lies in s.
 pub fn byte_from(s: &[u8], start: usize, offset: usize) -> u8
@@ -25,4 +25,10 @@ pub fn word_at(s: &[u16], i: usize) -> u16
         return s[i];
     }
     0
+}
+
+pub fn word_of(high: u8, low: u8) -> u16
+    ensures { λ r. ⌜ r ≡ wordOf high low ⌝ }
+{
+    high as u16 * 256 + low as u16
 }

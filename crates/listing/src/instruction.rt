@@ -9,21 +9,24 @@ ghost use Prim.Native.Nat.{_≤_};
 ghost use Rattle.mcode.specs.Depths.{target};
 ghost use Rattle.listing.specs.Shape.{isCall, operandOf, fitting, targetOf, instructionAt};
 
-// The opcode, its length (0: it is not listed, or its operands do not lie in the code), the two bytes after it, and for a jump the
+// The opcode, its length (0: it is not listed, or its operands do not lie in the code), the four bytes after it, and for a jump the
 // position that it goes to, else 0.
 pub struct Instruction {
     pub op: u8,
     pub size: u8,
     pub first: u8,
     pub second: u8,
+    pub third: u8,
+    pub fourth: u8,
     pub target: u16,
 }
 
-// What an opcode's operands are: none, a byte, a word, a jump's distance, module and byte, procedure, module and procedure.
+// What an opcode's operands are: none, a byte, a word, two words, a jump's distance, module and byte, procedure, module and procedure.
 pub enum Operand {
     Nothing,
     Byte,
     Word,
+    Double,
     Jump,
     Global,
     Call,
@@ -57,6 +60,9 @@ pub fn operand_of(op: u8) -> Operand
         return Operand::Call;
     }
     let size = mcode::opcode::length_of(op);
+    if size == 5 {
+        return Operand::Double;
+    }
     if size == 3 {
         return Operand::Word;
     }
@@ -110,6 +116,8 @@ pub fn instruction_at(image: &[u8], m: Module, p: u16) -> Instruction
     let op = byte_from(image, m.code, at);
     let first = byte_from(image, m.code, at + 1);
     let second = byte_from(image, m.code, at + 2);
+    let third = byte_from(image, m.code, at + 3);
+    let fourth = byte_from(image, m.code, at + 4);
     let size = fitting_size(mcode::opcode::length_of(op), p, m.length);
     let target = target_of(op, at + 1, first, second);
     Instruction {
@@ -117,6 +125,8 @@ pub fn instruction_at(image: &[u8], m: Module, p: u16) -> Instruction
         size,
         first,
         second,
+        third,
+        fourth,
         target,
     }
 }

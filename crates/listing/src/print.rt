@@ -2,6 +2,7 @@
 // only how many columns it takes.
 use crate::block::Block;
 use crate::block::text;
+use crate::bytes::word_of;
 use crate::instruction::Instruction;
 use crate::instruction::Operand;
 use crate::instruction::operand_of;
@@ -104,7 +105,7 @@ fn spaced(out: &mut Block, used: &mut usize, n: u64) -> usize
     1 + number(out, used, n)
 }
 
-fn pair(out: &mut Block, used: &mut usize, first: u8, second: u8) -> usize
+fn pair(out: &mut Block, used: &mut usize, first: u16, second: u16) -> usize
     ensures { λ r. ⌜ r ≤ 42 ⌝ }
 {
     let columns = spaced(out, used, first as u64);
@@ -118,15 +119,20 @@ fn operands(out: &mut Block, used: &mut usize, i: Instruction) -> usize
     match operand {
         Operand::Nothing => 0,
         Operand::Byte => spaced(out, used, i.first as u64),
-        Operand::Word => spaced(out, used, i.first as u64 * 256 + i.second as u64),
+        Operand::Word => spaced(out, used, word_of(i.first, i.second) as u64),
+        Operand::Double => {
+            let high = word_of(i.first, i.second);
+            pair(out, used, high, word_of(i.third, i.fourth))
+        }
         Operand::Jump => spaced(out, used, i.target as u64),
-        Operand::Global => pair(out, used, i.first, i.second),
+        Operand::Global => pair(out, used, i.first as u16, i.second as u16),
         Operand::Call => spaced(out, used, i.first as u64),
-        Operand::FarCall => pair(out, used, i.first, i.second),
+        Operand::FarCall => pair(out, used, i.first as u16, i.second as u16),
     }
 }
 
-// A listed instruction with its operands, as LIB 200; a jump shows the position that it goes to. Answers how many columns it takes.
+// A listed instruction with its operands, as LIB 200, or LID 1 65535, the high word first; a jump shows the position that it goes to.
+// Answers how many columns it takes.
 pub fn instruction(out: &mut Block, used: &mut usize, i: Instruction) -> usize
     ensures { λ r. ⌜ r ≤ 47 ⌝ }
 {

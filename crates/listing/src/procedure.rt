@@ -1,10 +1,10 @@
 // The procedures of a module.
 use crate::bytes::byte_from;
+use crate::bytes::word_of;
 use mcode::Module;
 ghost use mathlib.Core.Path.{_≡_};
 ghost use Prim.Native.Nat.{_-_, _≤_};
 ghost use Rattle.mcode.specs.Image.{procCount};
-ghost use Rattle.mcode.specs.Word.{wordOf};
 ghost use Rattle.listing.specs.Shape.{procedureOf};
 ghost use Rattle.listing.specs.First.{firstFrom, enters};
 
@@ -12,12 +12,6 @@ pub struct Procedure {
     pub entry: u16,
     pub params: u8,
     pub results: u8,
-}
-
-fn word_of(high: u8, low: u8) -> u16
-    ensures { λ r. ⌜ r ≡ wordOf high low ⌝ }
-{
-    high as u16 * 256 + low as u16
 }
 
 // Procedure i. A module with no records has procedure 0, which enters at 0.

@@ -14,11 +14,11 @@ use Rattle.mcode.specs.declared.Program.{Program}
 use Rattle.mcode.specs.declared.Registers.{Registers}
 use Rattle.mcode.specs.declared.Flow.{Flow}
 use Rattle.mcode.specs.declared.Flow.the-variants.{Fault, Ends, To, Fork}
-use Rattle.mcode.specs.Decode.{Action, Put, AddTop, Jump, JumpZero, OrJump, AndJump, Load, LoadTop, LoadIndexed, Store, StoreBelow, StoreIndexed, LoadByte, StoreByte, One, Two, Three, Copy, Nothing, Read, Write, Trap, Enter, Follow, Call, CallLinked, CallExternal, Return, Transfer}
+use Rattle.mcode.specs.Decode.{Action, Put, AddTop, Jump, JumpZero, OrJump, AndJump, Load, LoadTop, LoadIndexed, Store, StoreBelow, StoreIndexed, LoadByte, StoreByte, One, Two, Three, Copy, Nothing, Read, Write, Trap, Enter, Follow, Call, CallLinked, CallExternal, Return, Transfer, PutPair, LoadPair, LoadPairTop, StorePair, StorePairBelow, Double}
 use Rattle.mcode.specs.Word.{pick}
 use Rattle.mcode.specs.Opcode.{lengths}
 use Rattle.mcode.specs.Depths.{Analysis, Follows, depths, onward, jumps, calls, callsIn}
-use Rattle.mcode.specs.Decode.{decodeOf, row1, loads, stores, row8, row9, row10, row11, row12, row13, row14, row15}
+use Rattle.mcode.specs.Decode.{decodeOf, row1, row2, row3, loads, stores, row8, row9, row10, row11, row12, row13, row14, row15}
 use Rattle.mcode.proofs.Standing.{met}
 
 -- what follows an action, with the next position n and the depth e that its row says
@@ -52,13 +52,19 @@ flowOf image program m n e (CallLinked i) = calls image m i n e
 flowOf image program m n e (CallExternal k i) = callsIn image program k i n e
 flowOf image program m n e Return = Ends
 flowOf image program m n e (Transfer b) = To n e
+flowOf image program m n e (PutPair high low) = To n e
+flowOf image program m n e (LoadPair a) = To n e
+flowOf image program m n e (LoadPairTop k) = To n e
+flowOf image program m n e (StorePair a) = To n e
+flowOf image program m n e (StorePairBelow k) = To n e
+flowOf image program m n e (Double op) = To n e
 
-module _ (image : List ℕ) (program : Program) (m : Module) (w : List ℕ) (b c n e : ℕ) (r : Registers) (bases : List ℕ) where
+module _ (image : List ℕ) (program : Program) (m : Module) (w : List ℕ) (o : ℕ → ℕ) (n e : ℕ) (r : Registers) (bases : List ℕ) where
   -- the row op, if it is used
   abbrev Row : ℕ → Type 0
   Row op =
       pick (eqb (getD lengths op 0) 0) (Unit {0})
-      (Follows (depths image program m) w (onward image program m (r .pc .0) op b c n e) → Follows (depths image program m) w (flowOf image program m n e (decodeOf op b c r bases .action)))
+      (Follows (depths image program m) w (onward image program m (r .pc .0) op (o 1) (o 2) n e) → Follows (depths image program m) w (flowOf image program m n e (decodeOf op o r bases .action)))
 
   abbrev Rows : ℕ → Type 0
   Rows zero = Unit {0}
@@ -71,9 +77,9 @@ module _ (image : List ℕ) (program : Program) (m : Module) (w : List ℕ) (b c
       ⊎-elim (λ q. subst Row (sym q) (t .0)) (λ h. row-of k op h (t .1)) (eq-or-lt-of-le le)
 
   all-rows : Rows 256
-  unfolding lengths onward jumps decodeOf row1 loads stores row8 row9 row10 row11 row12 row13 row14 row15
-  all-rows = (λ f. f, (λ f. f, (λ f. f, (λ f. f, (λ f. f, (λ f. f, (λ f. f, (λ f. f, (λ f. f, (λ f. f, (λ f. f, (λ f. f, (λ f. f, (λ f. f, (λ f. f, (λ f. f, (tt, (λ f. f, (λ f. f, (λ f. f, (λ f. f, (tt, (λ f. f, (λ f. f, (tt, (tt, (tt, (tt, (tt, (tt, (tt, (tt, (tt, (λ f. f, (tt, (tt, (λ f. f, (λ f. f, (λ f. f, (λ f. f, (λ f. f, (tt, (tt, (tt, (λ f. f, (λ f. f, (λ f. f, (λ f. f, (λ f. f, (λ f. f, (λ f. f, (λ f. f, (λ f. f, (λ f. f, (λ f. f, (λ f. f, (tt, (λ f. f, (λ f. f, (λ f. f, (tt, (tt, (tt, (tt, (λ f. f, (λ f. f, (λ f. f, (λ f. f, (λ f. f, (λ f. f, (λ f. f, (λ f. f, (tt, (tt, (λ f. f, (tt, (tt, (tt, (tt, (tt, (tt, (λ f. f, (λ f. f, (λ f. f, (λ f. f, (λ f. f, (tt, (tt, (tt, (tt, (λ f. f, (tt, (tt, (tt, (λ f. f, (λ f. f, (tt, (tt, (tt, (tt, (tt, (tt, (tt, (tt, (tt, (λ f. f, (λ f. f, (tt, (tt, (tt, (tt, (λ f. f, (tt, (tt, (tt, (tt, (tt, (tt, (tt, (tt, (tt, (λ f. f, (λ f. f, (tt, (tt, (tt, (tt, (λ f. f, (λ f. f, (λ f. f, (λ f. f, (λ f. f, (λ f. f, (λ f. f, (λ f. f, (λ f. f, (λ f. f, (λ f. f, (λ f. f, (λ f. f, (λ f. f, (λ f. f, (λ f. f, (λ f. f, (λ f. f, (λ f. f, (λ f. f, (λ f. f, (λ f. f, (λ f. f, (λ f. f, (λ f. f, (λ f. f, (λ f. f, (λ f. f, (λ f. f, (λ f. f, (λ f. f, (λ f. f, (λ f. f, (λ f. f, (λ f. f, (λ f. f, (λ f. f, (λ f. f, (λ f. f, (λ f. f, (λ f. f, (λ f. f, (λ f. f, (λ f. f, (λ f. f, (λ f. f, (λ f. f, (tt, (λ f. f, (λ f. f, (λ f. f, (λ f. f, (λ f. f, (λ f. f, (λ f. f, (λ f. f, (λ f. f, (λ f. f, (λ f. f, (λ f. f, (λ f. f, (λ f. f, (λ f. f, (tt, (λ f. f, (λ f. f, (λ f. f, (λ f. f, (λ f. f, (λ f. f, (λ f. f, (λ f. f, (λ f. f, (λ f. f, (λ f. f, (λ f. f, (λ f. f, (tt, (λ f. met (depths image program m) w (ltb b (program .count)) (To n e) f .1, (tt, (λ f. f, (λ f. f, (λ f. f, (λ f. f, (λ f. f, (λ f. f, (λ f. f, (λ f. f, (λ f. f, (λ f. f, (λ f. f, (λ f. f, (λ f. f, (tt, (λ f. met (depths image program m) w (ltb b (program .count)) (To n e) f .1, (tt, (λ f. f, (λ f. f, (λ f. f, (λ f. f, (λ f. f, (λ f. f, (λ f. f, (λ f. f, (λ f. f, (λ f. met (depths image program m) w (ltb b (program .count)) (To n e) f .1, (λ f. f, (λ f. f, (λ f. f, (tt, (λ f. f, (tt, (λ f. f, (λ f. f, (λ f. f, (λ f. f, (λ f. f, (λ f. f, (λ f. f, (λ f. f, (λ f. f, (λ f. f, (λ f. f, (λ f. f, (λ f. f, (λ f. f, (λ f. f, (λ f. f, (λ f. f, tt))))))))))))))))))))))))))))))))))))))))))))))))))))))))))))))))))))))))))))))))))))))))))))))))))))))))))))))))))))))))))))))))))))))))))))))))))))))))))))))))))))))))))))))))))))))))))))))))))))))))))))))))))))))))))))))))))))))))))))))))))))))))))))))))
+  unfolding lengths onward jumps decodeOf row1 row2 row3 loads stores row8 row9 row10 row11 row12 row13 row14 row15
+  all-rows = (λ f. f, (λ f. f, (λ f. f, (λ f. f, (λ f. f, (λ f. f, (λ f. f, (λ f. f, (λ f. f, (λ f. f, (λ f. f, (λ f. f, (λ f. f, (λ f. f, (λ f. f, (λ f. f, (tt, (λ f. f, (λ f. f, (λ f. f, (λ f. f, (tt, (λ f. f, (λ f. f, (tt, (tt, (tt, (tt, (tt, (tt, (tt, (tt, (tt, (λ f. f, (tt, (tt, (λ f. f, (λ f. f, (λ f. f, (λ f. f, (λ f. f, (tt, (tt, (tt, (λ f. f, (λ f. f, (λ f. f, (λ f. f, (λ f. f, (λ f. f, (λ f. f, (λ f. f, (λ f. f, (λ f. f, (λ f. f, (λ f. f, (tt, (λ f. f, (λ f. f, (λ f. f, (tt, (tt, (tt, (tt, (λ f. f, (λ f. f, (λ f. f, (λ f. f, (λ f. f, (λ f. f, (λ f. f, (λ f. f, (tt, (tt, (λ f. f, (tt, (tt, (tt, (tt, (tt, (tt, (λ f. f, (λ f. f, (λ f. f, (λ f. f, (λ f. f, (tt, (tt, (tt, (tt, (λ f. f, (tt, (tt, (tt, (λ f. f, (λ f. f, (tt, (tt, (tt, (tt, (tt, (tt, (tt, (tt, (tt, (λ f. f, (λ f. f, (tt, (tt, (λ f. f, (λ f. f, (λ f. f, (tt, (tt, (tt, (tt, (tt, (tt, (λ f. f, (λ f. f, (tt, (λ f. f, (λ f. f, (tt, (tt, (λ f. f, (λ f. f, (λ f. f, (λ f. f, (λ f. f, (λ f. f, (λ f. f, (λ f. f, (λ f. f, (λ f. f, (λ f. f, (λ f. f, (λ f. f, (λ f. f, (λ f. f, (λ f. f, (λ f. f, (λ f. f, (λ f. f, (λ f. f, (λ f. f, (λ f. f, (λ f. f, (λ f. f, (λ f. f, (λ f. f, (λ f. f, (λ f. f, (λ f. f, (λ f. f, (λ f. f, (λ f. f, (λ f. f, (λ f. f, (λ f. f, (λ f. f, (λ f. f, (λ f. f, (λ f. f, (λ f. f, (λ f. f, (λ f. f, (λ f. f, (λ f. f, (λ f. f, (λ f. f, (λ f. f, (λ f. f, (λ f. f, (λ f. f, (λ f. f, (λ f. f, (λ f. f, (λ f. f, (λ f. f, (λ f. f, (λ f. f, (λ f. f, (λ f. f, (λ f. f, (λ f. f, (λ f. f, (λ f. f, (λ f. f, (λ f. f, (λ f. f, (λ f. f, (λ f. f, (λ f. f, (λ f. f, (λ f. f, (λ f. f, (λ f. f, (λ f. f, (λ f. f, (λ f. f, (λ f. f, (λ f. f, (λ f. f, (λ f. met (depths image program m) w (ltb (o 1) (program .count)) (To n e) f .1, (λ f. met (depths image program m) w (ltb (o 1) (program .count)) (To n e) f .1, (λ f. f, (λ f. f, (λ f. f, (λ f. f, (λ f. f, (λ f. f, (λ f. f, (λ f. f, (λ f. f, (λ f. f, (λ f. f, (λ f. f, (λ f. f, (λ f. f, (λ f. met (depths image program m) w (ltb (o 1) (program .count)) (To n e) f .1, (λ f. met (depths image program m) w (ltb (o 1) (program .count)) (To n e) f .1, (λ f. f, (λ f. f, (λ f. f, (λ f. f, (λ f. f, (λ f. f, (λ f. f, (λ f. f, (λ f. f, (λ f. f, (λ f. met (depths image program m) w (ltb (o 1) (program .count)) (To n e) f .1, (λ f. f, (λ f. f, (λ f. f, (λ f. f, (λ f. f, (tt, (λ f. f, (λ f. f, (λ f. f, (λ f. f, (λ f. f, (λ f. f, (λ f. f, (λ f. f, (λ f. f, (λ f. f, (λ f. f, (λ f. f, (λ f. f, (λ f. f, (λ f. f, (λ f. f, (λ f. f, tt))))))))))))))))))))))))))))))))))))))))))))))))))))))))))))))))))))))))))))))))))))))))))))))))))))))))))))))))))))))))))))))))))))))))))))))))))))))))))))))))))))))))))))))))))))))))))))))))))))))))))))))))))))))))))))))))))))))))))))))))))))))))))))))))
 
-  pub flow-row : (op : ℕ) → op < 256 → 0 < getD lengths op 0 → Follows (depths image program m) w (onward image program m (r .pc .0) op b c n e)
-      → Follows (depths image program m) w (flowOf image program m n e (decodeOf op b c r bases .action))
+  pub flow-row : (op : ℕ) → op < 256 → 0 < getD lengths op 0 → Follows (depths image program m) w (onward image program m (r .pc .0) op (o 1) (o 2) n e)
+      → Follows (depths image program m) w (flowOf image program m n e (decodeOf op o r bases .action))
   flow-row op h l f = (rw (ne-eqb (getD lengths op 0) 0 (λ z. omega arith)) at (row-of 256 op h all-rows)) f

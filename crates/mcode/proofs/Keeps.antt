@@ -8,19 +8,19 @@ use borrow.Author.Tests.{ltb-false}
 use Rattle.mcode.specs.declared.Module.{Module}
 use Rattle.mcode.specs.declared.Position.{Position}
 use Rattle.mcode.specs.declared.Stop.{Stop}
-use Rattle.mcode.specs.Decode.{Action, Put, AddTop, Jump, JumpZero, OrJump, AndJump, Load, LoadTop, LoadIndexed, Store, StoreBelow, StoreIndexed, LoadByte, StoreByte, One, Two, Three, Copy, Nothing, Read, Write, Trap, Enter, Follow, Call, CallLinked, CallExternal, Return, Transfer}
+use Rattle.mcode.specs.Decode.{Action, Put, AddTop, Jump, JumpZero, OrJump, AndJump, Load, LoadTop, LoadIndexed, Store, StoreBelow, StoreIndexed, LoadByte, StoreByte, One, Two, Three, Copy, Nothing, Read, Write, Trap, Enter, Follow, Call, CallLinked, CallExternal, Return, Transfer, PutPair, LoadPair, LoadPairTop, StorePair, StorePairBelow, Double}
 use Rattle.mcode.specs.Opcode.{lengths, takens, lefts}
 use Rattle.mcode.specs.Image.{moduleOf, basesOf, codeByte}
 use Rattle.mcode.specs.Depths.{marksOf}
-use Rattle.mcode.specs.Machine.{State, go, halt, position, machine, at, framed, top, second, take1, take2, put, replace1, replace2, replace3}
+use Rattle.mcode.specs.Machine.{State, go, halt, position, machine, at, framed, top, second, take1, take2, put, replace1, replace2, replace3, putPair, pairFor1}
 use Rattle.mcode.specs.Decode.{Decoded, decodeOf}
 use Rattle.mcode.specs.Step.{performOf, stepOf}
 use Rattle.mcode.proofs.Standing.{follows-at, Rules, rules-at}
 use Rattle.mcode.proofs.Rows.{listed-below, takenBy, leftBy, size-row, taken-row, left-row}
 use Rattle.mcode.proofs.FlowRows.{flowOf, flow-row}
 use Rattle.mcode.proofs.Faults.{Found, one-real, two-real, three-real, followed-real}
-use Rattle.mcode.proofs.Shapes.{Here, P, R, D, M, Asks, Ok, same-stack, link-off, next-at, on-fine, take1-fine, take2-fine, take3-fine, put-fine, replace1-fine, replace2-fine, replace3-fine, framed-fine}
-use Rattle.mcode.proofs.Right.{Did, Right, off, falls-or, falls-and, to, to-all, by-test, to-either, reads, writes, computes, Says, says}
+use Rattle.mcode.proofs.Shapes.{Here, P, R, D, M, Asks, Ok, same-stack, link-off, next-at, on-fine, take1-fine, take2-fine, take3-fine, put-fine, replace1-fine, replace2-fine, replace3-fine, framed-fine, pair-fine, pair1-fine, pair4-fine}
+use Rattle.mcode.proofs.Right.{Did, Right, off, falls-or, falls-and, to, to-all, by-test, to-either, reads, writes, computes, reads-pair, writes-pair, Says, says}
 use Rattle.mcode.proofs.Frames.{call-right, return-right, transfer-right, callee, in-other}
 
 module _ (H : Here) where
@@ -66,6 +66,12 @@ module _ (H : Here) where
       call-right H q (CallExternal k i) k i _ _ (R H .pc) (D H) (M H .stack) (callee H q k l i (q .0) (D H) h g (omega arith)) (same-stack H) (omega arith)
   perform-right q Return t h f = return-right H q
   perform-right q (Transfer b) t h f = transfer-right H q b h f
+  perform-right q (PutPair high low) t h f = to H q _ (pair-fine H q high low h f)
+  perform-right q (LoadPair a) t h f = reads-pair H q (a .0) (putPair q (M H)) (λ u v. pair-fine H q u v h f)
+  perform-right q (LoadPairTop k) t h f = reads-pair H q _ (pairFor1 q (M H)) (λ u v. pair1-fine H q u v t h f)
+  perform-right q (StorePair a) t h f = writes-pair H q (a .0) _ _ _ (take2-fine H q h f)
+  perform-right q (StorePairBelow k) t h f = writes-pair H q _ _ _ _ (take3-fine H q h f)
+  perform-right q (Double op) t h f = to H q _ (pair4-fine H q _ _ t h f)
 
   -- what is decoded where the machine stands agrees with the table, and its flow with the map
   abbrev U : Module
@@ -78,7 +84,7 @@ module _ (H : Here) where
   opcode = codeByte (H .lent .image) U (R H .pc .0)
 
   abbrev pub decoded : Decoded
-  decoded = decodeOf opcode (Op 1) (Op 2) (R H) (basesOf (P H))
+  decoded = decodeOf opcode Op (R H) (basesOf (P H))
 
   pub record Decodes : Type 0 where
     pub rules : Rules (H .lent .image) (P H) U (marksOf (H .lent .map) U) (R H .pc .0) (D H) opcode (Op 1) (Op 2)
@@ -94,9 +100,9 @@ module _ (H : Here) where
       record {
         rules = rules;
         below = h;
-        size = size-row (Op 1) (Op 2) (R H) (basesOf (P H)) opcode h (rules .listed);
-        taken = taken-row (Op 1) (Op 2) (R H) (basesOf (P H)) opcode h (rules .listed);
-        left = left-row (Op 1) (Op 2) (R H) (basesOf (P H)) opcode h (rules .listed);
+        size = size-row Op (R H) (basesOf (P H)) opcode h (rules .listed);
+        taken = taken-row Op (R H) (basesOf (P H)) opcode h (rules .listed);
+        left = left-row Op (R H) (basesOf (P H)) opcode h (rules .listed);
       }
 
   -- one step
@@ -111,7 +117,7 @@ module _ (H : Here) where
       let n : p + size ≡ p + decoded .size = ap (λ (k : ℕ). p + k) (decodes .size) in
       let row = D H - getD takens opcode 0 + getD lefts opcode 0 in
       let d : row ≡ D H - takenBy (decoded .action) + leftBy (decoded .action) = ap₂ (λ (j k : ℕ). D H - j + k) (decodes .taken) (decodes .left) in
-      let f = flow-row (H .lent .image) (P H) U (marksOf (H .lent .map) U) (Op 1) (Op 2) (p + size) row (R H) (basesOf (P H)) opcode (decodes .below) (decodes .rules .listed) (decodes .rules .goes-on) in
+      let f = flow-row (H .lent .image) (P H) U (marksOf (H .lent .map) U) Op (p + size) row (R H) (basesOf (P H)) opcode (decodes .below) (decodes .rules .listed) (decodes .rules .goes-on) in
       perform-right nextAt (decoded .action) (subst (λ (k : ℕ). k ≤ D H) (decodes .taken) (decodes .rules .found))
       (subst (λ (k : ℕ). k ≤ 16) d (decodes .rules .room))
       (subst (λ (k : ℕ). Asks H (flowOf (H .lent .image) (P H) U (p + decoded .size) k (decoded .action))) d

@@ -15,7 +15,7 @@ use Rattle.mcode.specs.Decode.{Action, OrJump, AndJump, Transfer}
 use Rattle.mcode.specs.Word.{pick}
 use Rattle.mcode.specs.Image.{basesOf}
 use Rattle.mcode.specs.Machine.{State, state, Outcome, go, halt, depth, second, take1}
-use Rattle.mcode.specs.Step.{goes, storesTo, inStore, computed, savedStore}
+use Rattle.mcode.specs.Step.{goes, storesTo, inStore, lowAt, hasPair, inPair, readsPair, writesPair, computed, savedStore}
 use Rattle.mcode.specs.Demands.{Left}
 use Rattle.mcode.proofs.Rows.{takenBy, leftBy}
 use Rattle.mcode.proofs.Faults.{Found, Real, is, fault}
@@ -58,6 +58,17 @@ module _ (H : Here) (n : Position) {a : Action} where
 
   pub writes : (k v : ℕ) (m : Machine) → Fine H (takenBy a) (leftBy a) m → Right H n a (inStore (H .x) k (storesTo (H .x) m (set (H .x .store) k v)))
   writes k v m f = in-store k (to-all m (set (H .x .store) k v) (H .x .outputs) f (length-set (H .x .store) k v) refl)
+
+  -- a pair is read, or written, at k: both addresses are tested before anything else
+  in-pair : (k : ℕ) {o : Outcome} → Right H n a o → Right H n a (inPair (H .x) k o)
+  in-pair k f = by-test (hasPair (length (H .x .store)) k) (λ t. f) (λ t. off tt)
+
+  pub reads-pair : (k : ℕ) (m : ℕ → ℕ → Machine) → ((u v : ℕ) → Fine H (takenBy a) (leftBy a) (m u v)) → Right H n a (readsPair (H .x) k m)
+  reads-pair k m f = in-pair k (to _ (f _ _))
+
+  pub writes-pair : (k u v : ℕ) (m : Machine) → Fine H (takenBy a) (leftBy a) m → Right H n a (writesPair (H .x) k u v m)
+  writes-pair k u v m f =
+      in-pair k (to-all m (set (set (H .x .store) k u) (lowAt k) v) (H .x .outputs) f (length-set (set (H .x .store) k u) (lowAt k) v ∙ length-set (H .x .store) k u) refl)
 
   pub computes : {v : Value} (m : ℕ → Machine) → Real v → ((u : ℕ) → Fine H (takenBy a) (leftBy a) (m u)) → Right H n a (computed v (λ u. goes (H .x) (m u)))
   computes m (is {v = u}) f = to (m u) (f u)

@@ -10,17 +10,17 @@ use lib.ListN.{getD, length, List·getD-eq-default}
 use native.Mathlib.Decide.{decLt}
 use Rattle.mcode.proofs.Every.{at, both}
 use Rattle.mcode.specs.declared.Registers.{Registers}
-use Rattle.mcode.specs.Decode.{Action, Put, AddTop, Jump, JumpZero, OrJump, AndJump, Load, LoadTop, LoadIndexed, Store, StoreBelow, StoreIndexed, LoadByte, StoreByte, One, Two, Three, Copy, Nothing, Read, Write, Trap, Enter, Follow, Call, CallLinked, CallExternal, Return, Transfer}
+use Rattle.mcode.specs.Decode.{Action, Put, AddTop, Jump, JumpZero, OrJump, AndJump, Load, LoadTop, LoadIndexed, Store, StoreBelow, StoreIndexed, LoadByte, StoreByte, One, Two, Three, Copy, Nothing, Read, Write, Trap, Enter, Follow, Call, CallLinked, CallExternal, Return, Transfer, PutPair, LoadPair, LoadPairTop, StorePair, StorePairBelow, Double}
 use Rattle.mcode.specs.Opcode.{lengths, takens, lefts, usedBelow}
 use Rattle.mcode.specs.Demands.{Row, RowRule}
 use Rattle.mcode.specs.Depths.{target}
-use Rattle.mcode.specs.Decode.{decodeOf, row1, loads, stores, row8, row9, row10, row11, row12, row13, row14, row15}
+use Rattle.mcode.specs.Decode.{decodeOf, row1, row2, row3, loads, stores, row8, row9, row10, row11, row12, row13, row14, row15}
 
 pub row-rule : (op : ℕ) → op < 256 → Row op
 unfolding lengths takens lefts
 row-rule op h = record {
-  long = leb→le (getD lengths op 0) 3 (at (λ (k x : ℕ). leb x 3) lengths tt op h);
-  taken = leb→le (getD takens op 0) 3 (at (λ (k x : ℕ). leb x 3) takens tt op h);
+  long = leb→le (getD lengths op 0) 5 (at (λ (k x : ℕ). leb x 5) lengths tt op h);
+  taken = leb→le (getD takens op 0) 4 (at (λ (k x : ℕ). leb x 4) takens tt op h);
   left = leb→le (getD lefts op 0) 2 (at (λ (k x : ℕ). leb x 2) lefts tt op h);
 }
 
@@ -59,6 +59,12 @@ takenBy (CallLinked n) = 1
 takenBy (CallExternal m n) = 0
 takenBy Return = 0
 takenBy (Transfer b) = 2
+takenBy (PutPair high low) = 0
+takenBy (LoadPair a) = 0
+takenBy (LoadPairTop k) = 1
+takenBy (StorePair a) = 2
+takenBy (StorePairBelow k) = 3
+takenBy (Double op) = 4
 
 abbrev pub leftBy : Action → ℕ
 leftBy (Put v) = 1
@@ -90,6 +96,12 @@ leftBy (CallLinked n) = 0
 leftBy (CallExternal m n) = 0
 leftBy Return = 0
 leftBy (Transfer b) = 0
+leftBy (PutPair high low) = 2
+leftBy (LoadPair a) = 2
+leftBy (LoadPairTop k) = 2
+leftBy (StorePair a) = 0
+leftBy (StorePairBelow k) = 0
+leftBy (Double op) = 2
 
 -- the test holds, or the row is unused
 either : Bool → Bool → Bool
@@ -101,26 +113,26 @@ unfolding either
 used n t h e = rw (ne-eqb n 0 (λ z. omega arith)) at e
 
 -- what decoding makes of an opcode has the length, the words taken and the words left that the table says
-module _ (b c : ℕ) (r : Registers) (bases : List ℕ) where
+module _ (o : ℕ → ℕ) (r : Registers) (bases : List ℕ) where
   size-test : ℕ → ℕ → Bool
-  size-test k x = either (eqb x 0) (eqb x (decodeOf k b c r bases .size))
+  size-test k x = either (eqb x 0) (eqb x (decodeOf k o r bases .size))
 
   taken-test : ℕ → ℕ → Bool
-  taken-test k x = either (eqb (getD lengths k 0) 0) (eqb x (takenBy (decodeOf k b c r bases .action)))
+  taken-test k x = either (eqb (getD lengths k 0) 0) (eqb x (takenBy (decodeOf k o r bases .action)))
 
   left-test : ℕ → ℕ → Bool
-  left-test k x = either (eqb (getD lengths k 0) 0) (eqb x (leftBy (decodeOf k b c r bases .action)))
+  left-test k x = either (eqb (getD lengths k 0) 0) (eqb x (leftBy (decodeOf k o r bases .action)))
 
-  pub size-row : (op : ℕ) → op < 256 → 0 < getD lengths op 0 → getD lengths op 0 ≡ decodeOf op b c r bases .size
-  unfolding lengths size-test either decodeOf row1 loads stores row8 row9 row10 row11 row12 row13 row14 row15
+  pub size-row : (op : ℕ) → op < 256 → 0 < getD lengths op 0 → getD lengths op 0 ≡ decodeOf op o r bases .size
+  unfolding lengths size-test either decodeOf row1 row2 row3 loads stores row8 row9 row10 row11 row12 row13 row14 row15
   size-row op h l = eqb→eq (getD lengths op 0) _ (used (getD lengths op 0) _ l (at size-test lengths tt op h))
 
-  pub taken-row : (op : ℕ) → op < 256 → 0 < getD lengths op 0 → getD takens op 0 ≡ takenBy (decodeOf op b c r bases .action)
-  unfolding lengths takens taken-test either decodeOf row1 loads stores row8 row9 row10 row11 row12 row13 row14 row15
+  pub taken-row : (op : ℕ) → op < 256 → 0 < getD lengths op 0 → getD takens op 0 ≡ takenBy (decodeOf op o r bases .action)
+  unfolding lengths takens taken-test either decodeOf row1 row2 row3 loads stores row8 row9 row10 row11 row12 row13 row14 row15
   taken-row op h l = eqb→eq (getD takens op 0) _ (used (getD lengths op 0) _ l (at taken-test takens tt op h))
 
-  pub left-row : (op : ℕ) → op < 256 → 0 < getD lengths op 0 → getD lefts op 0 ≡ leftBy (decodeOf op b c r bases .action)
-  unfolding lengths lefts left-test either decodeOf row1 loads stores row8 row9 row10 row11 row12 row13 row14 row15
+  pub left-row : (op : ℕ) → op < 256 → 0 < getD lengths op 0 → getD lefts op 0 ≡ leftBy (decodeOf op o r bases .action)
+  unfolding lengths lefts left-test either decodeOf row1 row2 row3 loads stores row8 row9 row10 row11 row12 row13 row14 row15
   left-row op h l = eqb→eq (getD lefts op 0) _ (used (getD lengths op 0) _ l (at left-test lefts tt op h))
 
 -- 036, 037 and 256 are the only opcodes of their actions
@@ -154,13 +166,19 @@ ownOp op (CallLinked n) = true
 ownOp op (CallExternal m n) = true
 ownOp op Return = true
 ownOp op (Transfer b) = eqb op 0o256
+ownOp op (PutPair high low) = true
+ownOp op (LoadPair a) = true
+ownOp op (LoadPairTop k) = true
+ownOp op (StorePair a) = true
+ownOp op (StorePairBelow k) = true
+ownOp op (Double j) = true
 
-module _ (b c : ℕ) (r : Registers) (bases : List ℕ) where
+module _ (o : ℕ → ℕ) (r : Registers) (bases : List ℕ) where
   own-test : ℕ → ℕ → Bool
-  own-test k x = ownOp k (decodeOf k b c r bases .action)
+  own-test k x = ownOp k (decodeOf k o r bases .action)
 
-  pub own-row : (op : ℕ) → op < 256 → T (ownOp op (decodeOf op b c r bases .action))
-  unfolding lengths own-test decodeOf row1 loads stores row8 row9 row10 row11 row12 row13 row14 row15
+  pub own-row : (op : ℕ) → op < 256 → T (ownOp op (decodeOf op o r bases .action))
+  unfolding lengths own-test decodeOf row1 row2 row3 loads stores row8 row9 row10 row11 row12 row13 row14 row15
   own-row op h = at own-test lengths tt op h
 
 beyond : (op : ℕ) → 256 ≤ op → getD lengths op 0 ≡ 0

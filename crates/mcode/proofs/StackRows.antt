@@ -44,4 +44,4 @@ module _ (image map inputs : List ℕ) (fit : mapFits image (parse image .progra
   pub account : stepOf (lentTo image map inputs) x ≡ go y → Accounts image x y
   account e =
       let d = decodes H in
-      from-did (decoded H .action) (decoded H .size) (d .size) (d .taken) (d .left) (own-row _ _ _ _ (opcode H) (d .below)) (step-goes H e .1)
+      from-did (decoded H .action) (decoded H .size) (d .size) (d .taken) (d .left) (own-row _ _ _ (opcode H) (d .below)) (step-goes H e .1)

@@ -107,9 +107,9 @@ calls image m i n e =
 unfoldable pub callsIn : List ℕ → Program → ℕ → ℕ → ℕ → ℕ → Flow
 callsIn image program k i n e = pick (ltb k (program .count)) (calls image (moduleOf program k) i n e) Fault
 
--- 027, 042 and 062 name a module
+-- 027, 042, 062, 043 and 063 name a module
 abbrev pub namesModule : ℕ → Bool
-namesModule op = or (eqb op 0o27) (or (eqb op 0o42) (eqb op 0o62))
+namesModule op = or (eqb op 0o27) (or (eqb op 0o42) (or (eqb op 0o62) (or (eqb op 0o43) (eqb op 0o63))))
 
 -- a listed instruction op of module m at p, whose operand bytes are b and c; n is the next position, e the depth that its row
 -- says. "RTN and TRAP have no successor."

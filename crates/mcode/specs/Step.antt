@@ -4,10 +4,10 @@ use mathlib.Core.Bool.{Bool, true, false}
 use mathlib.Core.List.{List, [], _∷_}
 use lib.ListN.{length, getD, set, replicate}
 use lib.Dec.{ltb, leb, eqb}
-use Rattle.mcode.specs.Word.{pick, and, wrap, byteOf, withByte, oneOf, twoOf, threeOf}
+use Rattle.mcode.specs.Word.{pick, and, wrap, byteOf, withByte, oneOf, twoOf, threeOf, paired, highOf, lowOf, doubleOf}
 use Rattle.mcode.specs.Image.{moduleOf, basesOf, codeByte, entryOf, margin}
 use Rattle.mcode.specs.Depths.{marked}
-use Rattle.mcode.specs.Machine.{State, state, Outcome, go, halt, address, position, machine, at, framed, depth, top, second, third, on, take1, take2, take3, put, replace1, replace2, replace3}
+use Rattle.mcode.specs.Machine.{State, state, Outcome, go, halt, address, position, machine, at, framed, depth, top, second, third, fourth, on, take1, take2, take3, put, replace1, replace2, replace3, putPair, pairFor1, pairFor4}
 use Rattle.mcode.specs.declared.Address.{Address}
 use Rattle.mcode.specs.declared.Position.{Position}
 use Rattle.mcode.specs.declared.Registers.{Registers}
@@ -17,7 +17,7 @@ use Rattle.mcode.specs.declared.Stop.{Stop}
 use Rattle.mcode.specs.declared.Stop.the-variants.{Ended, BadAddress, StackLimit, ReturnMark, BadProcess, BadChannel, Program as OfProgram}
 use Rattle.mcode.specs.declared.Value.{Value}
 use Rattle.mcode.specs.declared.Value.the-variants.{Is, Fault}
-use Rattle.mcode.specs.Decode.{Decoded, decodeOf, Action, Put, AddTop, Jump, JumpZero, OrJump, AndJump, Load, LoadTop, LoadIndexed, Store, StoreBelow, StoreIndexed, LoadByte, StoreByte, One, Two, Three, Copy, Nothing, Read, Write, Trap, Enter, Follow, Call, CallLinked, CallExternal, Return, Transfer}
+use Rattle.mcode.specs.Decode.{Decoded, decodeOf, Action, Put, AddTop, Jump, JumpZero, OrJump, AndJump, Load, LoadTop, LoadIndexed, Store, StoreBelow, StoreIndexed, LoadByte, StoreByte, One, Two, Three, Copy, Nothing, Read, Write, Trap, Enter, Follow, Call, CallLinked, CallExternal, Return, Transfer, PutPair, LoadPair, LoadPairTop, StorePair, StorePairBelow, Double}
 
 -- what a run is lent and only reads
 pub record Lent : Type 0 where
@@ -41,6 +41,25 @@ inStore x a o = pick (ltb a (length (x .store))) o (halt BadAddress)
 -- the word at an address
 abbrev pub wordIn : State → ℕ → ℕ
 wordIn x a = getD (x .store) a 0
+
+-- the pair of words at a: "The high word is at the first address"; "the low word's address is one more, modulo 65,536"
+abbrev pub lowAt : ℕ → ℕ
+lowAt a = wrap (a + 1)
+
+-- whether a store of w words has both of them
+abbrev pub hasPair : ℕ → ℕ → Bool
+hasPair w a = and (ltb a w) (ltb (lowAt a) w)
+
+-- "If either address fails, trap 32 is given and neither word is written."
+abbrev pub inPair : State → ℕ → Outcome → Outcome
+inPair x a o = pick (hasPair (length (x .store)) a) o (halt BadAddress)
+
+-- the pair is read, and handed on to f; the pair is written
+abbrev pub readsPair : State → ℕ → (ℕ → ℕ → Machine) → Outcome
+readsPair x a f = inPair x a (goes x (f (wordIn x a) (wordIn x (lowAt a))))
+
+abbrev pub writesPair : State → ℕ → ℕ → ℕ → Machine → Outcome
+writesPair x a high low m = inPair x a (storesTo x m (set (set (x .store) a high) (lowAt a) low))
 
 -- a computed word, handed on, or its trap
 abbrev pub computed : Value → (ℕ → Outcome) → Outcome
@@ -258,6 +277,15 @@ performOf lent (CallLinked n) q x = call lent (x .machine .registers .unit) n (t
 performOf lent (CallExternal m n) q x = call lent m n (getD (basesOf (lent .program)) (x .machine .registers .unit) 0) (q .0 + 0x8000) (x .machine) x
 performOf lent Return q x = returned lent x
 performOf lent (Transfer b) q x = transferred lent b q x
+performOf lent (PutPair high low) q x = goes x (putPair q (x .machine) high low)
+performOf lent (LoadPair a) q x = readsPair x (a .0) (putPair q (x .machine))
+performOf lent (LoadPairTop k) q x = readsPair x (wrap (top (x .machine) + k)) (pairFor1 q (x .machine))
+performOf lent (StorePair a) q x = writesPair x (a .0) (second (x .machine)) (top (x .machine)) (take2 q (x .machine))
+performOf lent (StorePairBelow k) q x = writesPair x (wrap (third (x .machine) + k)) (second (x .machine)) (top (x .machine)) (take3 q (x .machine))
+performOf lent (Double op) q x =
+    let m = x .machine in
+    let n = doubleOf op (paired (fourth m) (third m)) (paired (second m) (top m)) in
+    goes x (pairFor4 q m (highOf n) (lowOf n))
 
 -- one step
 unfoldable pub stepOf : Lent → State → Outcome
@@ -265,5 +293,5 @@ stepOf lent x =
     let r = x .machine .registers in
     let m = moduleOf (lent .program) (r .unit) in
     let p = r .pc .0 in
-    let d = decodeOf (codeByte (lent .image) m p) (codeByte (lent .image) m (p + 1)) (codeByte (lent .image) m (p + 2)) r (basesOf (lent .program)) in
+    let d = decodeOf (codeByte (lent .image) m p) (λ k. codeByte (lent .image) m (p + k)) r (basesOf (lent .program)) in
     performOf lent (d .action) (position (p + d .size)) x

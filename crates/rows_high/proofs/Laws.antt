@@ -4,7 +4,7 @@ use mathlib.Core.Bool.{Bool, true, false}
 use mathlib.Core.List.{List, [], _∷_}
 use Prim.Native.Nat.{ℕ, _+_, _≤_, _<_, _/_}
 use native.Mathlib.Omega.{arith}
-use borrow.Author.Tests.{eq-eqb, ne-eqb, le-leb, lt-leb, le-ltb, eqb-true}
+use borrow.Author.Tests.{eq-eqb, ne-eqb, le-leb, lt-leb, le-ltb, eqb-true, eqb-false}
 use lib.Dec.{eqb, ltb, leb}
 use lib.ListN.{getD}
 use Rattle.mcode.specs.Word.{pick, and, allBelow}
@@ -37,13 +37,29 @@ one-left taken ks row last op t h e l n m =
     eqb-true op last
     (rw (eq-eqb (op / 16) row e, ne-eqb (getD lengths op 0) 0 (λ z. omega (arith, l, z)), n, not-among ks op m) at (all-at 256 (left taken ks row last) t op h))
 
-pub is206 : (op : ℕ) → op < 256 → op / 16 ≡ 8 → 1 ≤ getD lengths op 0 → None (0o205 ∷ 0o200 ∷ []) op → op ≡ 0o206
-unfolding allBelow left among lengths
-is206 op h e l = one-left (λ (op : ℕ). false) (0o205 ∷ 0o200 ∷ []) 8 0o206 op refl h e l refl
+pub is202 : (op : ℕ) → op / 16 ≡ 8 → op < 0o203 → None (0o201 ∷ 0o200 ∷ []) op → op ≡ 0o202
+is202 op e h n = omega (arith, e, h, n .0 .1, n .1)
 
-pub is226 : (op : ℕ) → op < 256 → op / 16 ≡ 9 → 1 ≤ getD lengths op 0 → None (0o225 ∷ 0o220 ∷ []) op → op ≡ 0o226
+pub is206 : (op : ℕ) → op < 256 → op / 16 ≡ 8 → 1 ≤ getD lengths op 0 → 0o203 ≤ op → op < 0o210 → None (0o205 ∷ []) op → op ≡ 0o206
 unfolding allBelow left among lengths
-is226 op h e l = one-left (λ (op : ℕ). false) (0o225 ∷ 0o220 ∷ []) 9 0o226 op refl h e l refl
+is206 op h e l low high =
+    one-left (λ (op : ℕ). pick (ltb op 0o203) true (leb 0o210 op)) (0o205 ∷ []) 8 0o206 op refl h e l (rw (le-ltb op 0o203 low) (lt-leb 0o210 op high))
+
+-- an opcode of row 8 from 210 on is 210 or 211
+pub to211 : (op : ℕ) → op < 256 → op / 16 ≡ 8 → 1 ≤ getD lengths op 0 → 0o210 ≤ op → op ≤ 0o211
+unfolding allBelow left among lengths
+to211 op h e l low = last (eqb op 0o210) refl
+  where
+    last : (t : Bool) → eqb op 0o210 ≡ t → op ≤ 0o211
+    last true q = let z = eqb-true op 0o210 q in omega (arith, z)
+    last false q = let z = one-left (λ (op : ℕ). ltb op 0o210) (0o210 ∷ []) 8 0o211 op refl h e l (le-ltb op 0o210 low) (tt, eqb-false op 0o210 q) in omega (arith, z)
+
+pub is222 : (op : ℕ) → op / 16 ≡ 9 → op < 0o223 → None (0o221 ∷ 0o220 ∷ []) op → op ≡ 0o222
+is222 op e h n = omega (arith, e, h, n .0 .1, n .1)
+
+pub is226 : (op : ℕ) → op < 256 → op / 16 ≡ 9 → 1 ≤ getD lengths op 0 → 0o223 ≤ op → None (0o225 ∷ []) op → op ≡ 0o226
+unfolding allBelow left among lengths
+is226 op h e l low = one-left (λ (op : ℕ). ltb op 0o223) (0o225 ∷ []) 9 0o226 op refl h e l (le-ltb op 0o223 low)
 
 pub is256 : (op : ℕ) → op < 256 → op / 16 ≡ 10 → 1 ≤ getD lengths op 0 → and (leb 0o252 op) (leb op 0o255) ≡ false → None (0o245 ∷ 0o241 ∷ 0o240 ∷ []) op → op ≡ 0o256
 unfolding allBelow left among lengths

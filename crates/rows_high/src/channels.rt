@@ -53,7 +53,7 @@ pub fn row10(
     requires { ⌜ Mapped (now table) (now map) ⌝ }
     requires { ⌜ Framed (now table) (length (now store)) r ⌝ }
     requires { ⌜ Anchored (now table) r ⌝ }
-    ensures { λ q. ⌜ ((lent : Lent) → Lends (now (image .entry)) (now (table .entry)) (now (map .entry)) (now (inputs .entry)) lent → (c : ℕ) → result q (now (stack .exit)) (now (store .exit)) (now (outputs .exit)) ≡ instruction lent op (operandAt (now (image .entry)) r 1) c r (now (stack .entry)) (now (store .entry)) (now (outputs .entry))) × Anchored (now (table .entry)) (q .core) ⌝ }
+    ensures { λ q. ⌜ ((lent : Lent) → Lends (now (image .entry)) (now (table .entry)) (now (map .entry)) (now (inputs .entry)) lent → result q (now (stack .exit)) (now (store .exit)) (now (outputs .exit)) ≡ instruction lent op (operandAt (now (image .entry)) r) r (now (stack .entry)) (now (store .entry)) (now (outputs .entry))) × Anchored (now (table .entry)) (q .core) ⌝ }
 {
     let to = r.pc + 1;
     if compares(op) {

@@ -26,7 +26,7 @@ pub fn row11(op: u8, r: Core, stack: &mut [u16; 16]) -> Stepped
     requires { ⌜ op / 16 ≡ 11 ⌝ }
     requires { ⌜ 1 ≤ getD lengths op 0 ⌝ }
     requires { ⌜ Stacked op r ⌝ }
-    ensures { λ q. ⌜ ((lent : Lent) (b c : ℕ) (store out : List ℕ) → result q (now (stack .exit)) store out ≡ instruction lent op b c r (now (stack .entry)) store out) × Stays r (q .core) ⌝ }
+    ensures { λ q. ⌜ ((lent : Lent) (o : ℕ → ℕ) (store out : List ℕ) → result q (now (stack .exit)) store out ≡ instruction lent op o r (now (stack .entry)) store out) × Stays r (q .core) ⌝ }
 {
     let to = r.pc + 1;
     if op < 0o270 {

@@ -108,7 +108,7 @@ fn put_outputs(out: &mut Block, used: &mut usize, last: &mut [u16], outputs: &[u
     }
 }
 
-// Module, position and instruction.
+// Module, position and instruction. One that is wider than its column, as LID 65535 65535, has one blank behind it.
 fn put_place(
     out: &mut Block,
     used: &mut usize,
@@ -124,7 +124,8 @@ fn put_place(
         let m = program.modules[unit];
         let i = instruction_at(image, m, registers.pc.0);
         let columns = instruction(out, used, i);
-        fill(out, used, columns, 14);
+        fill(out, used, columns, 13);
+        blanks(out, used, 1);
     }
 }
 

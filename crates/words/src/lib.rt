@@ -4,6 +4,7 @@ ghost use Prim.Native.Nat.{ℕ};
 ghost use Rattle.mcode.specs.Word as W;
 
 pub mod bits;
+pub mod doubles;
 pub mod sides;
 pub mod signed;
 pub mod unsigned;

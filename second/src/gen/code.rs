@@ -160,10 +160,10 @@ impl Writer<'_> {
             JPC, JP, JPFC, JPF, JPBC, JPB, ORJP, ANDJP, CX, CX, CI, CL, CL1, 0o362, 0o363, TRA,
             TRAP, RTN,
         ];
-        let opcode = if self.rng.once_in(3) {
-            self.rng.pick(&CONTROL)
-        } else {
-            self.listed()
+        let opcode = match self.rng.below(12) {
+            0..=3 => self.rng.pick(&CONTROL),
+            4 => return self.counter(),
+            _ => self.listed(),
         };
         self.instruction(opcode, fuel);
     }
@@ -233,6 +233,46 @@ impl Writer<'_> {
                 self.literal(word);
             }
         }
+    }
+
+    /// Puts a pair of words, in any way.
+    fn put_pair(&mut self) {
+        match self.rng.below(6) {
+            0 => self.plain(LLD),
+            1 => self.plain(LGD),
+            2 => self.plain(LED),
+            3 => {
+                self.put();
+                self.put();
+            }
+            _ => self.plain(LID),
+        }
+    }
+
+    /// A counter of two words goes up or down: it is loaded, another pair put,
+    /// and the sum or the difference stored.
+    fn counter(&mut self) {
+        // An address and two pairs.
+        self.between(0, 5);
+        let m = self.rng.below(self.signatures.len()) as u8;
+        let b = self.offset();
+        let (load, store) = match self.rng.below(5) {
+            0 => (vec![LLD, b], vec![SLD, b]),
+            1 => (vec![LGD, b], vec![SGD, b]),
+            2 => (vec![LED, m, b], vec![SED, m, b]),
+            3 => (vec![LSD, b], vec![SSD, b]),
+            _ => (vec![LSD0], vec![SSD0]),
+        };
+        if matches!(load[0], LSD | LSD0) {
+            // The address once for the load, once for the store.
+            self.address();
+            self.emit(&[0o265]);
+        }
+        self.emit(&load);
+        self.put_pair();
+        let operator = self.rng.pick(&[DADD, DSUB]);
+        self.emit(&[operator]);
+        self.emit(&store);
     }
 
     /// Stores one word away, in any way.
@@ -315,10 +355,19 @@ impl Writer<'_> {
         let small = |rng: &mut Rng| rng.below(most) as u16;
         match opcode {
             // An address; and a value or an index.
-            0o140..=0o157 | 0o200 => self.address(),
+            0o140..=0o157 | 0o200 | LSD | LSD0 => self.address(),
             0o160..=0o177 | 0o220 => {
                 self.address();
                 self.put();
+            }
+            SSD | SSD0 => {
+                self.address();
+                self.put_pair();
+            }
+            SLD | SED | SGD => self.put_pair(),
+            DADD | DSUB => {
+                self.put_pair();
+                self.put_pair();
             }
             0o205 | 0o206 | 0o225 | 0o226 => {
                 self.address();
@@ -372,12 +421,18 @@ impl Writer<'_> {
         let mut bytes = vec![opcode];
         match opcode {
             0o022 => bytes.extend(some_word(self.rng).to_be_bytes()),
+            LID => bytes.extend(some_double(self.rng).to_be_bytes()),
             0o027 | 0o042 | 0o062 => {
                 bytes.push(self.rng.below(self.signatures.len()) as u8);
                 bytes.push(self.offset());
             }
+            LED | SED => {
+                bytes.push(self.rng.below(self.signatures.len()) as u8);
+                bytes.push(self.far_offset());
+            }
+            LGD | SGD => bytes.push(self.far_offset()),
             // A store over the own return mark is rare.
-            0o060 if self.careful || !self.rng.once_in(20) => {
+            0o060 | SLD if self.careful || !self.rng.once_in(20) => {
                 bytes.push(self.rng.within(4, 20) as u8)
             }
             0o350 => bytes.push(self.rng.below(4) as u8),
@@ -393,6 +448,15 @@ impl Writer<'_> {
             0 if !self.careful => self.rng.byte(),
             1 if !self.careful => 255,
             _ => self.rng.within(4, 20) as u8,
+        }
+    }
+
+    /// Often one beyond the modules, where a store may end.
+    fn far_offset(&mut self) -> u8 {
+        if self.careful || self.rng.once_in(4) {
+            self.offset()
+        } else {
+            self.rng.within(100, 255) as u8
         }
     }
 
@@ -574,6 +638,28 @@ pub fn some_word(rng: &mut Rng) -> u16 {
         4 => rng.below(5000) as u16,
         _ => rng.pick(&[
             0, 1, 2, 15, 16, 17, 255, 256, 0x7FFE, 0x7FFF, 0x8000, 0x8001, 0xFFFE, 0xFFFF,
+        ]),
+    }
+}
+
+/// Numbers of 32 bits at which a word carries or borrows, and others.
+pub fn some_double(rng: &mut Rng) -> u32 {
+    match rng.below(4) {
+        0 => rng.next() as u32,
+        1 => u32::from(some_word(rng)),
+        2 => u32::from(some_word(rng)) << 16 | u32::from(some_word(rng)),
+        _ => rng.pick(&[
+            0,
+            1,
+            0x0000_FFFE,
+            0x0000_FFFF,
+            0x0001_0000,
+            0x0001_FFFF,
+            0x7FFF_FFFF,
+            0x8000_0000,
+            0xFFFF_0000,
+            0xFFFF_FFFE,
+            0xFFFF_FFFF,
         ]),
     }
 }

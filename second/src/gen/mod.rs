@@ -4,10 +4,11 @@ mod code;
 pub mod rng;
 mod state;
 
+use crate::api;
 use crate::assemble::{encode, Source};
 use crate::case::{Case, CaseRun};
 use crate::machine::Machine;
-use crate::opcode::{self, CL, RTN, TRA};
+use crate::opcode::{self, CL, DADD, DSUB, LED, LGD, LID, PAIRS, RTN, SED, SGD, TRA};
 use code::{program, some_word, Shape};
 use rng::Rng;
 use state::World;
@@ -64,7 +65,7 @@ pub const SMALL: Scale = Scale {
     alterations: 2,
     machine_runs: 4,
     large_parts: 20,
-    large_rounds: 12,
+    large_rounds: 11,
     own_inputs: 8,
 };
 
@@ -73,13 +74,19 @@ pub fn case(scale: &Scale, seed: u64, index: u64) -> Case {
     let rng = &mut Rng::for_case(seed, index);
     let round = index / 32;
     let mut case = match index % 32 {
-        0..=9 => program_case(rng, scale),
+        0..=8 => program_case(rng, scale),
+        9 => {
+            let opcode = any_double(rng);
+            state_case(rng, scale, Some(opcode))
+        }
         10..=15 => state_case(rng, scale, None),
         16..=18 => state_case(rng, scale, Some(TRA)),
         19..=20 => state_case(rng, scale, Some(RTN)),
-        21..=23 => mutant_case(rng, scale),
+        21..=22 => mutant_case(rng, scale),
+        23 => double_depth_case(rng, scale),
         24..=25 => header_case(rng, scale),
         26 => depth_case(rng, scale),
+        28 if !round.is_multiple_of(2) => lent_double_case(rng),
         27..=28 => broken_map_case(rng, scale),
         29 => broken_machine_case(rng, scale),
         31 if round.is_multiple_of(scale.large_rounds) => {
@@ -133,8 +140,19 @@ fn opcode_shape(rng: &mut Rng, scale: &Scale, count: usize, opcode: Option<u8>) 
         statements: scale.statements[0],
         data: 20,
         opcodes,
-        careful: rng.once_in(2),
+        // Pairs are to reach the store's end.
+        careful: rng.once_in(2) && !opcode.is_some_and(|opcode| PAIRS.contains(&opcode)),
         large_stores: scale.large_parts,
+    }
+}
+
+/// An opcode of double words, mostly a load or a store, and often one that a
+/// module's base addresses: those reach the store's end least.
+fn any_double(rng: &mut Rng) -> u8 {
+    match rng.below(12) {
+        0 => rng.pick(&[LID, DADD, DSUB]),
+        1..=6 => rng.pick(&[LGD, LED, SGD, SED]),
+        _ => rng.pick(&PAIRS),
     }
 }
 
@@ -192,7 +210,10 @@ fn program_case(rng: &mut Rng, scale: &Scale) -> Case {
 /// Single steps, or a few, from machines at any marked position.
 fn state_case(rng: &mut Rng, scale: &Scale, opcode: Option<u8>) -> Case {
     let shape = opcode_shape(rng, scale, scale.state_opcodes, opcode);
-    let world = World::new(rng, &shape);
+    let mut world = World::new(rng, &shape);
+    if let Some(opcode) = opcode {
+        world.end_at_pair(rng, opcode);
+    }
     let mut case = case_of(rng, world.image.clone(), world.words);
     for _ in 0..scale.state_runs {
         let budget = rng.pick(&[1, 1, 1, 2, 5, 30]);
@@ -302,6 +323,94 @@ fn depth_case(rng: &mut Rng, scale: &Scale) -> Case {
     case
 }
 
+/// Double words that just fit, or just do not, in one of the modules.
+fn double_depth_case(rng: &mut Rng, scale: &Scale) -> Case {
+    let count = rng.within(1, 3);
+    let mut modules = vec![Source::plain(&[RTN]); count];
+    modules[rng.below(count)] = Source::plain(&double_code(rng, count));
+    let mut case = case_of(rng, encode(&modules), 400);
+    case.runs = plain_runs(rng, scale);
+    case
+}
+
+/// The same behind an RTN, where load marks nothing, under a map that marks
+/// it. The second run's machine stands there.
+fn lent_double_case(rng: &mut Rng) -> Case {
+    let count = rng.within(1, 2);
+    let mut modules = vec![Source::plain(&[RTN]); count];
+    let code = double_code(rng, count);
+    modules[0].code.extend(&code);
+    let mut case = case_of(rng, encode(&modules), 400);
+    let (_, mut machine) = api::start(&case.image, &mut [0; 400]);
+    machine.pc = 1;
+    let mut run = plain_run(rng, 30);
+    run.machine = Some(machine);
+    // The first module's code begins at byte 4, this one a byte later.
+    run.map_patches = marks_in_a_row(&code)
+        .into_iter()
+        .map(|(position, depth)| (5 + position as u16, depth))
+        .collect();
+    if rng.once_in(3) {
+        let altered = rng.below(run.map_patches.len());
+        run.map_patches[altered].1 ^= 1;
+    }
+    case.runs = vec![plain_run(rng, 5), run];
+    case
+}
+
+/// The positions of a code without jumps, with the depths of their words.
+fn marks_in_a_row(code: &[u8]) -> Vec<(usize, u8)> {
+    let mut marks = Vec::new();
+    let (mut position, mut depth) = (0, 0);
+    while position < code.len() {
+        marks.push((position, depth));
+        let row = opcode::row(code[position]);
+        position += usize::from(row.length);
+        depth = (depth + row.left).saturating_sub(row.taken);
+    }
+    marks
+}
+
+/// Literals, and an instruction of double words that is narrow in some way.
+fn double_code(rng: &mut Rng, modules: usize) -> Vec<u8> {
+    let opcode = match rng.below(4) {
+        0 => return cut_literal(rng),
+        1 => rng.pick(&[LED, SED]),
+        _ => any_double(rng),
+    };
+    double_near_limits(rng, opcode, modules)
+}
+
+/// So many of 000–017.
+fn literals(rng: &mut Rng, count: usize) -> Vec<u8> {
+    (0..count).map(|_| rng.below(16) as u8).collect()
+}
+
+/// A LID whose operands the code's end cuts off.
+fn cut_literal(rng: &mut Rng) -> Vec<u8> {
+    let depth = rng.below(15);
+    let mut code = literals(rng, depth);
+    code.push(LID);
+    code.extend((0..rng.below(4)).map(|_| rng.byte()));
+    code
+}
+
+/// An instruction with enough words below it or one too few, with room above
+/// or too little, and with a module that exists or not.
+fn double_near_limits(rng: &mut Rng, opcode: u8, modules: usize) -> Vec<u8> {
+    let row = opcode::row(opcode);
+    let least = usize::from(row.taken);
+    let depth = rng.pick(&[least.saturating_sub(1), least, least, 14, 15, 16]);
+    let mut code = literals(rng, depth);
+    code.push(opcode);
+    if matches!(opcode, LED | SED) {
+        code.push(rng.pick(&[0, modules - 1, modules, 255]) as u8);
+    }
+    code.resize_with(depth + usize::from(row.length), || rng.byte());
+    code.push(RTN);
+    code
+}
+
 /// Maps that somebody has altered, one run after another.
 fn broken_map_case(rng: &mut Rng, scale: &Scale) -> Case {
     let shape = any_shape(rng, scale);
@@ -408,7 +517,7 @@ fn large_case(rng: &mut Rng, kind: u64) -> Case {
         };
         program(rng, &shape)
     };
-    let (image, store_length) = match kind % 8 {
+    let (image, store_length) = match kind % 9 {
         // 32 modules in the largest store.
         0 => (encode(&many(rng, 32, 3, 1900)), 65_535),
         // One code of 32,767 bytes.
@@ -434,7 +543,9 @@ fn large_case(rng: &mut Rng, kind: u64) -> Case {
             (encode(&modules), 8_192)
         }
         // One code too long by a byte.
-        _ => (encode(&[filled(32_768)]), 4_096),
+        7 => (encode(&[filled(32_768)]), 4_096),
+        // A store too long by a word.
+        _ => (encode(&many(rng, 1, 1, 10)), 65_536),
     };
     let mut case = case_of(rng, image, store_length);
     for budget in [0, 100, 40_000] {

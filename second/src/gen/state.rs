@@ -1,7 +1,7 @@
 //! Machines and stores that no program need have made: every register and
 //! every word that decides something is set by hand.
 
-use super::code::{program, some_word, Shape, PROCESS_NAMES, PROCESS_NAME_COUNT};
+use super::code::{program, some_double, some_word, Shape, PROCESS_NAMES, PROCESS_NAME_COUNT};
 use super::rng::Rng;
 use crate::api;
 use crate::assemble::encode;
@@ -9,7 +9,8 @@ use crate::case::CaseRun;
 use crate::depths::UNMARKED;
 use crate::image::{parse, Program};
 use crate::machine::Machine;
-use crate::opcode;
+use crate::opcode::{self, *};
+use crate::pair::first_address;
 
 /// An accepted program and the length of its store.
 pub struct World {
@@ -57,6 +58,32 @@ impl World {
         }
     }
 
+    /// Lets the store end at a pair of this opcode that a module's base
+    /// addresses, if there is one: mostly inside it, else before or after it.
+    pub fn end_at_pair(&mut self, rng: &mut Rng, opcode: u8) {
+        let least = self.least_words();
+        let beyond = |place: &Place| self.fixed_pair(place).is_some_and(|first| first >= least);
+        let place = self.place_where(rng, |place| place.opcode == opcode && beyond(place));
+        if let Some(first) = place.and_then(|place| self.fixed_pair(&place)) {
+            self.words = first + rng.pick(&[0, 1, 1, 1, 1, 2]);
+        }
+    }
+
+    /// The first address of the pair at a place, where a module's base and the
+    /// operands alone decide it.
+    fn fixed_pair(&self, place: &Place) -> Option<usize> {
+        let machine = Machine {
+            module: place.module,
+            pc: place.position,
+            ..Machine::default()
+        };
+        match place.opcode {
+            LGD | LED | SGD | SED => first_address(&self.program, &self.image, &machine),
+            _ => None,
+        }
+        .map(usize::from)
+    }
+
     /// The least store that start accepts.
     pub fn least_words(&self) -> usize {
         self.program.z as usize + Machine::LEAST_BEYOND_Z
@@ -90,17 +117,27 @@ impl World {
     /// listed one, and store words to go with it.
     pub fn set_state(&self, rng: &mut Rng, opcode: Option<u8>, run: &mut CaseRun) {
         let opcode = opcode.unwrap_or_else(|| self.any_opcode(rng));
+        let right = |place: &Place| place.opcode == opcode;
+        // A pair that the store's end cuts is preferred.
+        let cut = |place: &Place| right(place) && self.fixed_pair(place) == Some(self.words - 1);
         let place = self
-            .place_where(rng, |place| place.opcode == opcode)
+            .place_where(rng, cut)
+            .filter(|_| rng.once_in(2))
+            .or_else(|| self.place_where(rng, right))
             .unwrap_or_else(|| self.any_place(rng));
         let mut machine = self.machine_at(rng, place);
         for _ in 0..rng.below(4) {
-            let address = rng.below(self.words) as u16;
-            run.store_patches.push((address, some_word(rng)));
+            // The base copy is only data.
+            let address = match rng.below(4) {
+                0 => Machine::BASE_COPY + rng.below(3),
+                _ => rng.below(self.words),
+            };
+            run.store_patches.push((address as u16, some_word(rng)));
         }
         match place.opcode {
             opcode::TRA => self.set_transfer(rng, &mut machine, run),
             opcode::RTN => self.set_return(rng, &mut machine, run),
+            opcode if PAIRS.contains(&opcode) => self.set_pair(rng, opcode, &mut machine, run),
             opcode => self.set_operands(rng, opcode, &mut machine),
         }
         run.machine = Some(machine);
@@ -151,6 +188,43 @@ impl World {
             *word = some_word(rng);
         }
         machine
+    }
+
+    /// A pair, and words where it lies.
+    fn set_pair(&self, rng: &mut Rng, opcode: u8, machine: &mut Machine, run: &mut CaseRun) {
+        let first = |machine: &Machine| {
+            first_address(&self.program, &self.image, machine).unwrap_or_default()
+        };
+        let by = self.pair_address(rng).wrapping_sub(first(machine));
+        let move_it = |base: &mut u16| *base = base.wrapping_add(by);
+        let depth = usize::from(machine.depth);
+        match opcode {
+            LLD | SLD => move_it(&mut machine.l),
+            LSD | LSD0 => move_it(&mut machine.stack[depth - 1]),
+            SSD | SSD0 => move_it(&mut machine.stack[depth - 3]),
+            // A module's base stays.
+            _ => {}
+        }
+        let first = first(machine);
+        for address in [first, first.wrapping_add(1)] {
+            if usize::from(address) < self.words {
+                run.store_patches.push((address, rng.word()));
+            }
+        }
+    }
+
+    /// An address of a pair, often at the store's end.
+    fn pair_address(&self, rng: &mut Rng) -> u16 {
+        let end = self.words as u16;
+        match rng.below(8) {
+            // The last pair, and the one that the end cuts.
+            0 => end - 2,
+            1 | 2 => end - 1,
+            3 => rng.pick(&[end, 65_534, 65_535]),
+            // A sum that has wrapped.
+            4 => rng.below(4) as u16,
+            _ => self.address(rng),
+        }
     }
 
     /// Mostly good words for an opcode that takes some.
@@ -209,6 +283,17 @@ impl World {
                 set(2, word.wrapping_add(rng.pick(&[0, 1, 65_535, 0x8000])));
             }
             0o316 | 0o317 => set(1, rng.pick(&[0x8000, 0x7FFF, 0xFFFF, 0x8001, 5])),
+            DADD | DSUB => {
+                let lower = some_double(rng);
+                let any = some_double(rng);
+                // Others make a sum or a difference of nearly 0.
+                let upper = rng.pick(&[any, any, lower, lower.wrapping_neg()]);
+                let upper = upper.wrapping_add(rng.pick(&[0, 1, u32::MAX]));
+                set(1, upper as u16);
+                set(2, (upper >> 16) as u16);
+                set(3, lower as u16);
+                set(4, (lower >> 16) as u16);
+            }
             _ => {}
         }
     }

@@ -103,7 +103,7 @@ fn small_cases_and_their_coverage() {
     let path = file("cases-small", &[]);
     let path = path.to_str().unwrap();
     let write = |count: &str| {
-        let arguments = ["cases", "--small", "--seed", "51", "--count", count, path];
+        let arguments = ["cases", "--small", "--seed", "8", "--count", count, path];
         assert_eq!(second(&arguments, &[]).status.code(), Some(0));
         second(&["coverage", path], &[])
     };

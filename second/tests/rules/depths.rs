@@ -54,6 +54,130 @@ fn operands_lie_in_the_code() {
     );
 }
 
+/// LID has four bytes of operands, the longest instruction.
+#[test]
+fn the_operands_of_lid_lie_in_the_code() {
+    let whole = [0o023, 1, 2, 3, 4];
+    for length in 1..5 {
+        assert_eq!(marks(&whole[..length]), None);
+        // Bytes of the next module are no operands.
+        let next = Source::plain(&[0o354; 5]);
+        assert_eq!(module_marks(&[Source::plain(&whole[..length]), next]), None);
+    }
+    // Whole, but with no next position.
+    assert_eq!(marks(&whole), None);
+    assert_eq!(
+        marks(&[0o023, 1, 2, 3, 4, 0o354]),
+        Some(vec![0, FF, FF, FF, FF, 2])
+    );
+    // The operand bytes may be marked themselves: a jump back into them.
+    assert_eq!(
+        marks(&[0o023, 0o336, 0o336, 0o336, 0o336, 0o061, 4, 0o035, 5]),
+        None,
+        "reached with depth 2 and with depth 0"
+    );
+    assert_eq!(
+        marks(&[0o023, 0o336, 0o336, 0o336, 0o336, 0o035, 5]),
+        Some(vec![0, 2, 2, 2, 2, 2, FF])
+    );
+    // Run tests a mark at the code's end too.
+    for length in 1..5 {
+        let code = [&[0o354], &whole[..length]].concat();
+        let mut part = vec![FF; code.len()];
+        part[0] = 0;
+        assert_eq!(run_number(&code, &part), 30);
+        part[1] = 0;
+        assert_eq!(run_number(&code, &part), 12);
+    }
+    let code = [0o354, 0o023, 1, 2, 3, 4, 0o354];
+    assert_eq!(run_number(&code, &[0, 0, FF, FF, FF, FF, 2]), 30);
+    assert_eq!(run_number(&code, &[0, 14, FF, FF, FF, FF, 16]), 30);
+    assert_eq!(run_number(&code, &[0, 15, FF, FF, FF, FF, 16]), 12);
+    assert_eq!(run_number(&code, &[0, 0, FF, FF, FF, FF, 1]), 12);
+}
+
+/// Instructions of double words, with what they take and leave.
+const DOUBLES: [(&[u8], usize, usize); 13] = [
+    (&[0o023, 0, 1, 0, 2], 0, 2),
+    (&[0o041, 9], 0, 2),
+    (&[0o043, 0, 9], 0, 2),
+    (&[0o101, 9], 0, 2),
+    (&[0o201, 9], 1, 2),
+    (&[0o202], 1, 2),
+    (&[0o061, 9], 2, 0),
+    (&[0o063, 0, 9], 2, 0),
+    (&[0o121, 9], 2, 0),
+    (&[0o221, 9], 3, 0),
+    (&[0o222], 3, 0),
+    (&[0o210], 4, 2),
+    (&[0o211], 4, 2),
+];
+
+#[test]
+fn double_words_are_there_and_find_room() {
+    for (instruction, taken, left) in DOUBLES {
+        for depth in 0..=16 {
+            let mut code = vec![0o001; depth];
+            code.extend(instruction);
+            code.push(0o354);
+            let fits = depth >= taken && depth - taken + left <= 16;
+            let expected = fits.then(|| {
+                let mut marks: Vec<u8> = (0..=depth as u8).collect();
+                marks.extend(vec![FF; instruction.len() - 1]);
+                marks.push((depth + left - taken) as u8);
+                marks
+            });
+            assert_eq!(marks(&code), expected, "{instruction:?} at {depth}");
+        }
+    }
+    // A pair is put over 14 words, not over 15 or 16; LSD takes one before.
+    let over = |words: usize, last: &[u8]| [&vec![0o001; words], last, &[0o354]].concat();
+    for load in [&[0o023, 0, 0, 0, 0][..], &[0o041, 0], &[0o101, 0]] {
+        assert!(marks(&over(14, load)).is_some());
+        assert_eq!(marks(&over(15, load)), None);
+        assert_eq!(marks(&over(16, load)), None);
+    }
+    assert!(marks(&over(15, &[0o202])).is_some());
+    assert_eq!(marks(&over(16, &[0o202])), None);
+    // Sums take four words, not three.
+    assert_eq!(marks(&over(3, &[0o210])), None);
+    assert!(marks(&over(4, &[0o210])).is_some());
+}
+
+/// "043 and 063 name a module, which must exist, as 042 and 062 do."
+#[test]
+fn modules_of_pairs_exist() {
+    let code = |words: usize, opcode: u8, module: u8| {
+        [vec![0o001; words], vec![opcode, module, 9, 0o354]].concat()
+    };
+    let other = Source::plain(&[0o354]);
+    for (words, opcode) in [(0, 0o043), (2, 0o063)] {
+        let alone = |module| marks(&code(words, opcode, module));
+        assert!(alone(0).is_some());
+        for module in [1, 2, 31, 32, 255] {
+            assert_eq!(alone(module), None);
+        }
+        let last_of_two = |module| {
+            let last = Source::plain(&code(words, opcode, module));
+            module_marks(&[other.clone(), last])
+        };
+        assert!(last_of_two(0).is_some());
+        assert!(last_of_two(1).is_some());
+        assert_eq!(last_of_two(2), None);
+        // A later module exists too.
+        let first = Source::plain(&code(words, opcode, 1));
+        assert!(module_marks(&[first, other.clone()]).is_some());
+        // Where nothing reaches it, any module may stand; run tests a mark.
+        let unreached = [&[0o354], &code(0, opcode, 1)[..]].concat();
+        assert_eq!(marks(&unreached), Some(vec![0, FF, FF, FF, FF]));
+        let depth = words as u8;
+        let left = 2 - depth;
+        assert_eq!(run_number(&unreached, &[0, depth, FF, FF, left]), 12);
+        let good = [&[0o354], &code(0, opcode, 0)[..]].concat();
+        assert_eq!(run_number(&good, &[0, depth, FF, FF, left]), 30);
+    }
+}
+
 #[test]
 fn opcodes_are_listed_where_they_are_reached() {
     assert_eq!(marks(&[0o021]), None);
@@ -322,9 +446,13 @@ fn small_code(random: &mut impl FnMut(u64) -> u64) -> Vec<u8> {
         0o000, 0o001, 0o002, 0o003, 0o032, 0o033, 0o034, 0o035, 0o036, 0o037, 0o270, 0o265, 0o336,
         0o354,
     ];
+    small_code_of(&BYTES, random)
+}
+
+fn small_code_of(bytes: &[u8], random: &mut impl FnMut(u64) -> u64) -> Vec<u8> {
     let length = 1 + random(5) as usize;
     let mut code: Vec<u8> = (0..length)
-        .map(|_| BYTES[random(BYTES.len() as u64) as usize])
+        .map(|_| bytes[random(bytes.len() as u64) as usize])
         .collect();
     // Half of them end as a code can.
     if random(2) == 0 {
@@ -411,6 +539,10 @@ fn naive(code: &[u8]) -> Option<Vec<u8>> {
                 0o036 | 0o037 => vec![(at + b?, d), (at + 1, d - 1)],
                 0o270 if d >= 2 => vec![(at, d - 1)],
                 0o265 if d >= 1 => vec![(at, d + 1)],
+                0o023 if p + 5 <= code.len() => vec![(at + 4, d + 2)],
+                0o202 if d >= 1 => vec![(at, d + 1)],
+                0o222 if d >= 3 => vec![(at, d - 3)],
+                0o210 if d >= 4 => vec![(at, d - 2)],
                 0o336 => vec![(at, d)],
                 0o354 => vec![],
                 _ => return None,
@@ -454,6 +586,38 @@ fn the_worklist_agrees_with_naive_sweeps() {
         accepted += usize::from(expected.is_some());
     }
     assert!(accepted > 5_000, "{accepted}");
+}
+
+/// The same with double words among few others, so that many codes fit.
+#[test]
+fn the_worklist_agrees_on_double_words() {
+    const BYTES: [u8; 12] = [
+        0o001, 0o003, 0o023, 0o023, 0o023, 0o202, 0o222, 0o210, 0o033, 0o035, 0o336, 0o336,
+    ];
+    let mut state = 1976u64;
+    let mut random = |bound: u64| {
+        state = state
+            .wrapping_mul(6_364_136_223_846_793_005)
+            .wrapping_add(1);
+        (state >> 33) % bound
+    };
+    let (mut accepted, mut with_lid) = (0, 0);
+    for _ in 0..100_000 {
+        let code: Vec<u8> = (0..1 + random(4))
+            .flat_map(|_| small_code_of(&BYTES, &mut random))
+            .collect();
+        let expected = naive(&code);
+        assert_eq!(marks(&code), expected, "{code:?}");
+        if let Some(marks) = expected {
+            let lid = |(&byte, &mark): (&u8, &u8)| byte == 0o023 && mark != FF;
+            accepted += 1;
+            with_lid += usize::from(code.iter().zip(&marks).any(lid));
+        }
+    }
+    assert!(
+        accepted > 5_000 && with_lid > 1_000,
+        "{accepted} {with_lid}"
+    );
 }
 
 /// Run and load agree: every map that load made is one that run takes.

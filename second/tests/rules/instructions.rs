@@ -129,6 +129,7 @@ fn plain_steps() -> Vec<Step> {
         set_byte(1000, 3, 0x00AB, 1001, 0x56AB),
         set_byte(0x83E9, 0xFFFE, 0x00AB, 1000, 0xAB34),
     ]);
+    steps.extend(pairs());
     steps.extend(arithmetic());
     // Unsigned e or c inside: both limits belong to the range.
     for e in [5, 6, 0x9000] {
@@ -149,6 +150,80 @@ fn plain_steps() -> Vec<Step> {
     let links = [(L, 1000), (1000, 0), (0, 60_000)];
     steps.push(step(&[0o350, 3], &[], &[60_000]).memory(&links));
     steps.push(step(&[0o351], &[], &[60_000]).memory(&[(L, 60_000)]));
+    steps
+}
+
+/// Loads, stores, sums and differences of pairs. "The high word is at the first
+/// address and lies below the low word on the stack."
+fn pairs() -> Vec<Step> {
+    let load = |instruction: &[u8], before: &[u16], address: u16| {
+        let memory = [(address, 0x1234), (address + 1, 0xABCD)];
+        step(instruction, before, &[0x1234, 0xABCD]).memory(&memory)
+    };
+    let store = |instruction: &[u8], before: &[u16], address: u16| {
+        let before = [before, &[0x1234, 0xABCD]].concat();
+        step(instruction, &before, &[]).writes(&[(address, 0x1234), (address + 1, 0xABCD)])
+    };
+    let mut steps = vec![
+        // Two operand words, high first.
+        step(&[0o023, 0x12, 0x34, 0xAB, 0xCD], &[], &[0x1234, 0xABCD]),
+        step(&[0o023, 0, 0, 0, 1], &[], &[0, 1]),
+        load(&[0o041, 0], &[], L),
+        load(&[0o041, 255], &[], L + 255),
+        load(&[0o043, 1, 2], &[], BASE_1 + 2),
+        load(&[0o043, 0, 255], &[], BASE_0 + 255),
+        load(&[0o101, 1], &[], BASE_0 + 1),
+        load(&[0o101, 255], &[], BASE_0 + 255),
+        load(&[0o201, 255], &[1000], 1255),
+        load(&[0o201, 6], &[0xFFFF], 5),
+        load(&[0o202], &[1000], 1000),
+        // SLD over the own mark, and far from it.
+        store(&[0o061, 0], &[], L),
+        store(&[0o061, 255], &[], L + 255),
+        store(&[0o063, 1, 2], &[], BASE_1 + 2),
+        store(&[0o063, 0, 255], &[], BASE_0 + 255),
+        store(&[0o121, 1], &[], BASE_0 + 1),
+        store(&[0o121, 255], &[], BASE_0 + 255),
+        store(&[0o221, 255], &[1000], 1255),
+        store(&[0o221, 6], &[0xFFFF], 5),
+        store(&[0o222], &[1000], 1000),
+    ];
+    let words = |number: u32| [(number >> 16) as u16, number as u16];
+    let mut binary = |opcode: u8, lower: u32, upper: u32, result: u32| {
+        let before = [words(lower), words(upper)].concat();
+        steps.push(step(&[opcode], &before, &words(result)));
+    };
+    for (lower, upper, sum) in [
+        (2, 3, 5),
+        (0x1234_5678, 0x1111_1111, 0x2345_6789),
+        // The low words carry.
+        (0x0000_FFFF, 0x0000_0001, 0x0001_0000),
+        (0x0000_8000, 0x0000_8000, 0x0001_0000),
+        (0x0001_FFFF, 0x0000_FFFF, 0x0002_FFFE),
+        // The high words do, and the sum is reduced.
+        (0xFFFF_0000, 0x0001_0000, 0),
+        (0xFFFF_FFFF, 0x0000_0001, 0),
+        (0x0000_0001, 0xFFFF_FFFF, 0),
+        (0xFFFF_FFFF, 0xFFFF_FFFF, 0xFFFF_FFFE),
+        (0x8000_0000, 0x8000_0000, 0),
+    ] {
+        binary(0o210, lower, upper, sum);
+    }
+    for (lower, upper, difference) in [
+        (5, 3, 2),
+        (0x2345_6789, 0x1111_1111, 0x1234_5678),
+        (0x1234_5678, 0x1234_5678, 0),
+        // The low words borrow.
+        (0x0001_0000, 0x0000_0001, 0x0000_FFFF),
+        (0x0003_0000, 0x0001_FFFF, 0x0001_0001),
+        // The high words do, and the difference is reduced.
+        (0x0000_0000, 0x0000_0001, 0xFFFF_FFFF),
+        (3, 5, 0xFFFF_FFFE),
+        (0x0000_0000, 0x0001_0000, 0xFFFF_0000),
+        (0x0000_FFFF, 0xFFFF_0000, 0x0001_FFFF),
+    ] {
+        binary(0o211, lower, upper, difference);
+    }
     steps
 }
 

@@ -6,6 +6,7 @@ mod depths;
 mod generated;
 mod instructions;
 mod marked;
+mod pairs;
 mod procedures;
 mod refusals;
 mod rig;

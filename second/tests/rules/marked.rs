@@ -41,6 +41,59 @@ fn the_example_reads_as_printed() {
     );
 }
 
+/// A sum that carries and a difference that borrows, in double words:
+///
+/// LID 1 65,535 and LID 0 1 are 131,071 and 1; DADD gives 131,072, in words 2
+/// and 0; LID 0 1 and DSUB give 131,071 again. SGD 1 stores 1 at G+1 and 65,535
+/// at G+2. Output 0 becomes LGW 1, output 1 becomes LGW2: 12 steps, then RTN.
+const DOUBLE: [u8; 31] = [
+    0x01, 0x00, 0x00, 0x1B, // one module, 27 bytes of code
+    0x13, 0x00, 0x01, 0xFF, 0xFF, // 0 LID
+    0x13, 0x00, 0x00, 0x00, 0x01, // 5 LID
+    0x88, // 10 DADD
+    0x13, 0x00, 0x00, 0x00, 0x01, // 11 LID
+    0x89, // 16 DSUB
+    0x51, 0x01, // 17 SGD 1
+    0x00, 0x40, 0x01, 0xA1, // 19 LI0, LGW 1, WRITE
+    0x01, 0x42, 0xA1, // 23 LI1, LGW2, WRITE
+    0xEC, // 26 RTN
+];
+
+#[test]
+fn double_words_have_their_map() {
+    let mut map = [0x55; 32];
+    assert_eq!(load(&DOUBLE, &mut map), 0);
+    let unmarked = 0xFF;
+    let mut expected = vec![unmarked; 31];
+    for (position, depth) in [
+        (0, 0),
+        (5, 2),
+        (10, 4),
+        (11, 2),
+        (16, 4),
+        (17, 2),
+        (19, 0),
+        (20, 1),
+        (22, 2),
+        (23, 0),
+        (24, 1),
+        (25, 2),
+        (26, 0),
+    ] {
+        expected[4 + position] = depth;
+    }
+    assert_eq!(map[..31], expected);
+    assert_eq!(map[31], 0x55);
+}
+
+#[test]
+fn double_words_read_as_worked_out() {
+    assert_eq!(
+        desk(&DOUBLE),
+        "stop 31 code 0 steps 12 module 0 pc 26 depth 0\n1 65535 0 0 0 0 0 0 0 0 0 0 0 0 0 0\n"
+    );
+}
+
 #[test]
 fn code_02_is_8() {
     assert_eq!(load_number(&[0x02]), 8);

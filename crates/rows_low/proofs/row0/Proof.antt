@@ -19,7 +19,7 @@ put-word-requires c κs = search needs
 
 returns : tie.Need-returns
 unfolding instruction decodeOf
-returns c = ((λ lent b d store out. rw (c .before .before .before .before .pre .0, ← c .before .before .wide .ensures .0) (c .put-word .ensures .0 lent store out)), c .put-word .ensures .1)
+returns c = ((λ lent o store out. rw (c .before .before .before .before .pre .0, ← c .before .before .wide .ensures .0) (c .put-word .ensures .0 lent store out)), c .put-word .ensures .1)
 
 pub row0-spec : {M : Type 1} → statement M
 row0-spec = tie.close (tie.spec wide-requires add-put-word put-word-requires returns)

@@ -1,21 +1,15 @@
 use Rattle.mcode.specs.Decode.{decodeOf, stores}
-use Rattle.mcode.specs.Opcode.{lengths}
+use Rattle.mcode.specs.Opcode.{takens, lefts, lengths}
 use Rattle.actions.specs.Core.{instruction}
-use Rattle.rows_low.proofs.Laws.{elsewhere, not-first}
+use Rattle.rows_low.proofs.Laws.{after-two, not-there, short5}
 use native.Mathlib.Omega.{arith}
 use borrow.Author.Needs.{needs}
 use Rattle.rows_low.proofs.row5.Statement.{statement}
 use Rattle.rows_low.proofs.row5.Tie as tie
-use Rattle.rows_low.proofs.row5.Reads as reads
-use Rattle.rows_low.proofs.row5.Lts as lts
-use Rattle.actions.proofs.leaf.operand.Reads as operand-reads
-use Rattle.actions.proofs.leaf.plus.Reads as plus-reads
-use Rattle.actions.proofs.leaf.wide.Reads as wide-reads
-use Rattle.actions.proofs.memory.save.Reads as save-reads
 
 operand-requires : tie.Need-operand-requires
-unfolding lengths
-operand-requires c κs = omega (arith, rw (c .before .before .match .keys1) at (c .before .before .before .before .before .pre .1))
+unfolding takens lefts lengths
+operand-requires c κs = omega (arith, rw (c .before .before .if1 .taken) at (c .before .before .before .before .before .pre .1 .0))
 
 plus-requires : tie.Need-plus-requires
 plus-requires c κs = search needs
@@ -24,7 +18,36 @@ add-save : tie.Need-add-save
 add-save c = search needs
 
 save-requires : tie.Need-save-requires
-save-requires c κs = search needs
+unfolding takens lefts lengths
+save-requires c κs = omega (arith, rw (c .before .before .before .before .before .if1 .taken) at (c .before .before .before .before .before .before .before .before .pre .1 .0))
+
+same-length : tie.Need-same-length
+same-length c = search needs
+
+returns : tie.Need-returns
+unfolding instruction decodeOf stores
+returns c = ((λ lent numbers h out. rw (c .before .before .before .before .before .before .before .before .if1 .taken, h .own) (rw (c .before .before .before .before .plus .ensures, c .before .before .before .before .before .operand .ensures .0) at (c .before .before .save .ensures .0 lent out))), c .before .before .save .ensures .1)
+
+operand-requires-2 : tie.Need-operand-requires-2
+unfolding takens lefts lengths
+operand-requires-2 c κs = omega (arith, rw (c .before .before .if2 .taken) at (c .before .before .before .before .before .before .pre .1 .0))
+
+plus-requires-2 : tie.Need-plus-requires-2
+plus-requires-2 c κs = search needs
+
+add-save-pair : tie.Need-add-save-pair
+add-save-pair c = search needs
+
+save-pair-requires : tie.Need-save-pair-requires
+unfolding takens lefts lengths
+save-pair-requires c κs = omega (arith, rw (c .before .before .before .before .before .if2 .taken) at (c .before .before .before .before .before .before .before .before .before .pre .1 .0), c .before .before .before .before .before .before .before .before .before .pre .1 .1)
+
+same-length-2 : tie.Need-same-length-2
+same-length-2 c = search needs
+
+returns-2 : tie.Need-returns-2
+unfolding instruction decodeOf stores
+returns-2 c = ((λ lent numbers h out. rw (c .before .before .before .before .before .before .before .before .if2 .taken, h .own) (rw (c .before .before .before .before .plus2 .ensures, c .before .before .before .before .before .operand2 .ensures .0) at (c .before .before .save-pair .ensures .0 lent out))), c .before .before .save-pair .ensures .1)
 
 sub-wide : tie.Need-sub-wide
 sub-wide c = search needs
@@ -32,28 +55,21 @@ sub-wide c = search needs
 wide-requires : tie.Need-wide-requires
 wide-requires c κs = search needs
 
-plus-requires-2 : tie.Need-plus-requires-2
-plus-requires-2 c κs = search needs
+plus-requires-3 : tie.Need-plus-requires-3
+plus-requires-3 c κs = search needs
 
 add-save-2 : tie.Need-add-save-2
 add-save-2 c = search needs
 
 save-requires-2 : tie.Need-save-requires-2
-save-requires-2 c κs = search needs
+save-requires-2 c κs = omega (arith, short5 _ (c .before .before .before .before .before .before .before .before .before .pre .0) (after-two _ 0o120 (omega (arith, c .before .before .before .before .before .before .before .before .before .pre .0)) (c .before .before .before .before .before .before .if1 .left) (c .before .before .before .before .before .if2 .left)), c .before .before .before .before .before .before .before .before .before .pre .1 .0)
 
-same-length : tie.Need-same-length
-same-length c = search needs
+same-length-3 : tie.Need-same-length-3
+same-length-3 c = search needs
 
-returns : tie.Need-returns
+returns-3 : tie.Need-returns-3
 unfolding instruction decodeOf stores
-returns c = ((λ lent numbers h d out. rw (c .before .before .before .before .before .before .before .before .match .keys1, h .own) (rw (c .before .before .before .before .plus .ensures, c .before .before .before .before .before .operand .ensures .0) at (c .before .before .save .ensures .0 lent out))), c .before .before .save .ensures .1)
-
-same-length-2 : tie.Need-same-length-2
-same-length-2 c = search needs
-
-returns-2 : tie.Need-returns-2
-unfolding instruction decodeOf stores
-returns-2 c = ((λ lent numbers h d out. rw (c .before .before .before .before .before .before .before .before .before .before .before .pre .0, elsewhere _ 0o42 _ (c .before .before .before .before .before .before .before .before .before .before .before .pre .0) (λ e. omega (arith, e)), elsewhere _ 0o62 _ (c .before .before .before .before .before .before .before .before .before .before .before .pre .0) (λ e. omega (arith, e)), not-first _ 0o120 (omega (arith, c .before .before .before .before .before .before .before .before .before .before .before .pre .0)) (c .before .before .before .before .before .before .before .before .match .rest .1), h .own) (rw (c .before .before .before .before .plus2 .ensures, c .before .before .before .before .before .wide .ensures .0) at (c .before .before .save2 .ensures .0 lent out))), c .before .before .save2 .ensures .1)
+returns-3 c = ((λ lent numbers h out. rw (c .before .before .before .before .before .before .before .before .before .before .before .before .pre .0, not-there _ 0o120 0 _ (after-two _ 0o120 (omega (arith, c .before .before .before .before .before .before .before .before .before .before .before .before .pre .0)) (c .before .before .before .before .before .before .before .before .before .if1 .left) (c .before .before .before .before .before .before .before .before .if2 .left)) (omega arith), not-there _ 0o120 1 _ (after-two _ 0o120 (omega (arith, c .before .before .before .before .before .before .before .before .before .before .before .before .pre .0)) (c .before .before .before .before .before .before .before .before .before .if1 .left) (c .before .before .before .before .before .before .before .before .if2 .left)) (omega arith), h .own) (rw (c .before .before .before .before .plus3 .ensures, c .before .before .before .before .before .wide .ensures .0) at (c .before .before .save2 .ensures .0 lent out))), c .before .before .save2 .ensures .1)
 
 pub row5-spec : {M : Type 1} → statement M
 row5-spec =
@@ -63,12 +79,18 @@ row5-spec =
     plus-requires
     add-save
     save-requires
-    sub-wide
-    wide-requires
-    plus-requires-2
-    add-save-2
-    save-requires-2
     same-length
     returns
+    operand-requires-2
+    plus-requires-2
+    add-save-pair
+    save-pair-requires
     same-length-2
-    returns-2)
+    returns-2
+    sub-wide
+    wide-requires
+    plus-requires-3
+    add-save-2
+    save-requires-2
+    same-length-3
+    returns-3)

@@ -1,14 +1,8 @@
 use Rattle.mcode.specs.Decode.{decodeOf}
 use Rattle.actions.specs.Core.{instruction}
-use Rattle.rows_low.proofs.Laws.{elsewhere}
-use native.Mathlib.Omega.{arith}
 use borrow.Author.Needs.{needs}
 use Rattle.rows_low.proofs.row6.Statement.{statement}
 use Rattle.rows_low.proofs.row6.Tie as tie
-use Rattle.rows_low.proofs.row6.Reads as reads
-use Rattle.rows_low.proofs.row6.Lts as lts
-use Rattle.actions.proofs.leaf.wide.Reads as wide-reads
-use Rattle.actions.proofs.memory.load_top.Reads as load-top-reads
 
 sub-wide : tie.Need-sub-wide
 sub-wide c = search needs
@@ -24,7 +18,7 @@ load-top-requires c κs = search needs
 
 returns : tie.Need-returns
 unfolding instruction decodeOf
-returns c = ((λ lent b d out. rw (c .before .before .before .before .before .pre .0, elsewhere _ 0o42 _ (c .before .before .before .before .before .pre .0) (λ e. omega (arith, e)), elsewhere _ 0o62 _ (c .before .before .before .before .before .pre .0) (λ e. omega (arith, e))) (rw (c .before .before .wide .ensures .0) at (c .load-top .ensures .0 lent out))), c .load-top .ensures .1)
+returns c = ((λ lent o out. rw (c .before .before .before .before .before .pre .0) (rw (c .before .before .wide .ensures .0) at (c .load-top .ensures .0 lent out))), c .load-top .ensures .1)
 
 pub row6-spec : {M : Type 1} → statement M
 row6-spec =

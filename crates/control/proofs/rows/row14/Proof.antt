@@ -124,7 +124,7 @@ returns-7 c = ((λ lent words h out. rw (c .before .before .before .before .befo
 
 returns-8 : tie.Need-returns-8
 unfolding performed instruction decodeOf row14
-returns-8 c = ((λ lent words h out. rw (ne-eqb _ _ (c .before .match .rest .0 .0 .0 .0 .0 .0 .1), c .before .before .before .before .before .pre .0, ne-eqb (c .before .before .before .before .before .args .op) 0o42 (λ e. omega (arith, c .before .before .before .before .before .pre .0, e)), ne-eqb (c .before .before .before .before .before .args .op) 0o62 (λ e. omega (arith, c .before .before .before .before .before .pre .0, e)), ne-eqb _ _ (c .before .match .rest .0 .0 .0 .0 .0 .1), ne-eqb _ _ (c .before .match .rest .0 .0 .0 .0 .1), ne-eqb _ _ (c .before .match .rest .0 .0 .0 .1), ne-eqb _ _ (c .before .match .rest .0 .0 .1), ne-eqb _ _ (c .before .match .rest .0 .1), ne-eqb _ _ (c .before .match .rest .1), add-zero) (c .nothing .ensures .0 lent _ _ out)), anchored-on (c .before .before .before .before .before .pre .1 .1) (c .nothing .ensures .1))
+returns-8 c = ((λ lent words h out. rw (ne-eqb _ _ (c .before .match .rest .0 .0 .0 .0 .0 .0 .1), c .before .before .before .before .before .pre .0, ne-eqb _ _ (c .before .match .rest .0 .0 .0 .0 .0 .1), ne-eqb _ _ (c .before .match .rest .0 .0 .0 .0 .1), ne-eqb _ _ (c .before .match .rest .0 .0 .0 .1), ne-eqb _ _ (c .before .match .rest .0 .0 .1), ne-eqb _ _ (c .before .match .rest .0 .1), ne-eqb _ _ (c .before .match .rest .1), add-zero) (c .nothing .ensures .0 lent _ _ out)), anchored-on (c .before .before .before .before .before .pre .1 .1) (c .nothing .ensures .1))
 
 pub row14-spec : {M : Type 1} → statement M
 row14-spec =

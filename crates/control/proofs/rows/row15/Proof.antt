@@ -22,7 +22,7 @@ same-length c = search needs
 
 returns : tie.Need-returns
 unfolding instruction
-returns c = ((λ lent marks words h stack out. rw (decoded-call _ _ _ _ _ (c .before .before .before .before .before .before .before .before .pre .0), ← c .before .before .before .before .before .callee .ensures, ← c .before .before .before .after-call .ensures .0) (c .before .before .call .ensures .0 lent marks words h stack out)), anchored-on (c .before .before .before .before .before .before .before .before .pre .1 .1) (c .before .before .call .ensures .1))
+returns c = ((λ lent marks words h stack out. rw (decoded-call _ _ _ _ (c .before .before .before .before .before .before .before .before .pre .0), ← c .before .before .before .before .before .callee .ensures, ← c .before .before .before .after-call .ensures .0) (c .before .before .call .ensures .0 lent marks words h stack out)), anchored-on (c .before .before .before .before .before .before .before .before .pre .1 .1) (c .before .before .call .ensures .1))
 
 pub row15-spec : {M : Type 1} → statement M
 row15-spec =

@@ -19,6 +19,18 @@ add-byte-from-2 c = search needs
 byte-from-requires-3 : tie.Need-byte-from-requires-3
 byte-from-requires-3 c κs = search needs
 
+add-byte-from-3 : tie.Need-add-byte-from-3
+add-byte-from-3 c = search needs
+
+byte-from-requires-4 : tie.Need-byte-from-requires-4
+byte-from-requires-4 c κs = search needs
+
+add-byte-from-4 : tie.Need-add-byte-from-4
+add-byte-from-4 c = search needs
+
+byte-from-requires-5 : tie.Need-byte-from-requires-5
+byte-from-requires-5 c κs = search needs
+
 length-of-requires : tie.Need-length-of-requires
 length-of-requires c κs = search needs
 
@@ -33,7 +45,7 @@ target-of-requires c κs = search needs
 
 returns : tie.Need-returns
 unfolding instructionAt
-returns c = rw (c .target-of .ensures, c .before .fitting-size .ensures, c .before .before .length-of .ensures .0, c .before .before .before .byte-from3 .ensures, c .before .before .before .before .byte-from2 .ensures, c .before .before .before .before .before .byte-from .ensures)
+returns c = rw (c .target-of .ensures, c .before .fitting-size .ensures, c .before .before .length-of .ensures .0, c .before .before .before .byte-from5 .ensures, c .before .before .before .before .byte-from4 .ensures, c .before .before .before .before .before .byte-from3 .ensures, c .before .before .before .before .before .before .byte-from2 .ensures, c .before .before .before .before .before .before .before .byte-from .ensures)
 
 pub instruction-at-spec : {M : Type 1} → statement M
 instruction-at-spec =
@@ -44,6 +56,10 @@ instruction-at-spec =
     byte-from-requires-2
     add-byte-from-2
     byte-from-requires-3
+    add-byte-from-3
+    byte-from-requires-4
+    add-byte-from-4
+    byte-from-requires-5
     length-of-requires
     fitting-size-requires
     add-target-of

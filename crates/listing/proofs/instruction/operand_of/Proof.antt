@@ -45,7 +45,11 @@ returns-6 c = rw (sym (c .before .before .before .before .before .before .before
 
 returns-7 : tie.Need-returns-7
 unfolding operandOf
-returns-7 c = rw (sym (c .before .before .before .before .before .before .before .before .before .is-jump .ensures) ∙ c .before .before .before .before .before .before .before .before .if1 .left, sym (c .before .before .before .before .before .before .before .names-module .ensures) ∙ c .before .before .before .before .before .before .if2 .left, ne-eqb _ _ (c .before .before .before .before .before .if3 .left), sym (c .before .before .before .before .is-call .ensures) ∙ c .before .before .before .if4 .left, ← c .before .before .length-of .ensures .0, ne-eqb _ _ (c .before .if5 .left), ne-eqb _ _ (c .if6 .left)) refl
+returns-7 c = rw (sym (c .before .before .before .before .before .before .before .before .before .before .is-jump .ensures) ∙ c .before .before .before .before .before .before .before .before .before .if1 .left, sym (c .before .before .before .before .before .before .before .before .names-module .ensures) ∙ c .before .before .before .before .before .before .before .if2 .left, ne-eqb _ _ (c .before .before .before .before .before .before .if3 .left), sym (c .before .before .before .before .before .is-call .ensures) ∙ c .before .before .before .before .if4 .left, ← c .before .before .before .length-of .ensures .0, ne-eqb _ _ (c .before .before .if5 .left), ne-eqb _ _ (c .before .if6 .left), eq-eqb _ _ (c .if7 .taken)) refl
+
+returns-8 : tie.Need-returns-8
+unfolding operandOf
+returns-8 c = rw (sym (c .before .before .before .before .before .before .before .before .before .before .is-jump .ensures) ∙ c .before .before .before .before .before .before .before .before .before .if1 .left, sym (c .before .before .before .before .before .before .before .before .names-module .ensures) ∙ c .before .before .before .before .before .before .before .if2 .left, ne-eqb _ _ (c .before .before .before .before .before .before .if3 .left), sym (c .before .before .before .before .before .is-call .ensures) ∙ c .before .before .before .before .if4 .left, ← c .before .before .before .length-of .ensures .0, ne-eqb _ _ (c .before .before .if5 .left), ne-eqb _ _ (c .before .if6 .left), ne-eqb _ _ (c .if7 .left)) refl
 
 pub operand-of-spec : {M : Type 1} → statement M
 operand-of-spec =
@@ -61,4 +65,5 @@ operand-of-spec =
     length-of-requires
     returns-5
     returns-6
-    returns-7)
+    returns-7
+    returns-8)

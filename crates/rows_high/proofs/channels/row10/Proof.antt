@@ -1,5 +1,5 @@
 use Rattle.rows_high.proofs.Laws.{is256}
-use Rattle.rows_high.proofs.Pairs.{pair-compared, inside, paired}
+use Rattle.rows_high.proofs.Families.{family-compared, inside, by-two}
 use Rattle.mcode.specs.Opcode.{takens, lefts, lengths}
 use Rattle.mcode.specs.Decode.{decodeOf, row10}
 use Rattle.mcode.specs.Step.{performOf}
@@ -20,19 +20,19 @@ compares-requires : tie.Need-compares-requires
 compares-requires c κs = search needs
 
 second-of-requires : tie.Need-second-of-requires
-second-of-requires c κs = omega (arith, pair-compared (c .before .before .before .before .before .before .before .before .before .before .args .op) (inside (c .before .before .before .before .before .before .before .before .before .before .args .op) (sym (c .before .before .before .compares .ensures) ∙ c .before .before .if1 .taken) .0) (inside (c .before .before .before .before .before .before .before .before .before .before .args .op) (sym (c .before .before .before .compares .ensures) ∙ c .before .before .if1 .taken) .1) .takes, c .before .before .before .before .before .before .before .before .before .before .pre .1 .1 .0 .deep, c .before .before .before .before .before .before .before .before .before .before .pre .1 .1 .0 .most)
+second-of-requires c κs = omega (arith, family-compared (c .before .before .before .before .before .before .before .before .before .before .args .op) (inside (c .before .before .before .before .before .before .before .before .before .before .args .op) (sym (c .before .before .before .compares .ensures) ∙ c .before .before .if1 .taken) .0) (inside (c .before .before .before .before .before .before .before .before .before .before .args .op) (sym (c .before .before .before .compares .ensures) ∙ c .before .before .if1 .taken) .1) .takes, c .before .before .before .before .before .before .before .before .before .before .pre .1 .1 .0 .deep, c .before .before .before .before .before .before .before .before .before .before .pre .1 .1 .0 .most)
 
 top-of-requires : tie.Need-top-of-requires
-top-of-requires c κs = omega (arith, pair-compared (c .before .before .before .before .before .before .before .before .before .before .before .before .args .op) (inside (c .before .before .before .before .before .before .before .before .before .before .before .before .args .op) (sym (c .before .before .before .before .before .compares .ensures) ∙ c .before .before .before .before .if1 .taken) .0) (inside (c .before .before .before .before .before .before .before .before .before .before .before .before .args .op) (sym (c .before .before .before .before .before .compares .ensures) ∙ c .before .before .before .before .if1 .taken) .1) .takes, c .before .before .before .before .before .before .before .before .before .before .before .before .pre .1 .1 .0 .deep, c .before .before .before .before .before .before .before .before .before .before .before .before .pre .1 .1 .0 .most)
+top-of-requires c κs = omega (arith, family-compared (c .before .before .before .before .before .before .before .before .before .before .before .before .args .op) (inside (c .before .before .before .before .before .before .before .before .before .before .before .before .args .op) (sym (c .before .before .before .before .before .compares .ensures) ∙ c .before .before .before .before .if1 .taken) .0) (inside (c .before .before .before .before .before .before .before .before .before .before .before .before .args .op) (sym (c .before .before .before .before .before .compares .ensures) ∙ c .before .before .before .before .if1 .taken) .1) .takes, c .before .before .before .before .before .before .before .before .before .before .before .before .pre .1 .1 .0 .deep, c .before .before .before .before .before .before .before .before .before .before .before .before .pre .1 .1 .0 .most)
 
 compared-requires : tie.Need-compared-requires
 compared-requires c κs = inside (c .before .before .before .before .before .before .before .before .before .before .before .before .before .args .op) (sym (c .before .before .before .before .before .before .compares .ensures) ∙ c .before .before .before .before .before .if1 .taken)
 
 two-requires : tie.Need-two-requires
-two-requires c κs = omega (arith, pair-compared (c .before .before .before .before .before .before .before .before .before .before .before .before .before .before .args .op) (inside (c .before .before .before .before .before .before .before .before .before .before .before .before .before .before .args .op) (sym (c .before .before .before .before .before .before .before .compares .ensures) ∙ c .before .before .before .before .before .before .if1 .taken) .0) (inside (c .before .before .before .before .before .before .before .before .before .before .before .before .before .before .args .op) (sym (c .before .before .before .before .before .before .before .compares .ensures) ∙ c .before .before .before .before .before .before .if1 .taken) .1) .takes, c .before .before .before .before .before .before .before .before .before .before .before .before .before .before .pre .1 .1 .0 .deep, c .before .before .before .before .before .before .before .before .before .before .before .before .before .before .pre .1 .1 .0 .most, c .before .before .before .before .before .before .before .before .before .before .before .before .before .before .pre .1 .1 .0 .own)
+two-requires c κs = omega (arith, family-compared (c .before .before .before .before .before .before .before .before .before .before .before .before .before .before .args .op) (inside (c .before .before .before .before .before .before .before .before .before .before .before .before .before .before .args .op) (sym (c .before .before .before .before .before .before .before .compares .ensures) ∙ c .before .before .before .before .before .before .if1 .taken) .0) (inside (c .before .before .before .before .before .before .before .before .before .before .before .before .before .before .args .op) (sym (c .before .before .before .before .before .before .before .compares .ensures) ∙ c .before .before .before .before .before .before .if1 .taken) .1) .takes, c .before .before .before .before .before .before .before .before .before .before .before .before .before .before .pre .1 .1 .0 .deep, c .before .before .before .before .before .before .before .before .before .before .before .before .before .before .pre .1 .1 .0 .most, c .before .before .before .before .before .before .before .before .before .before .before .before .before .before .pre .1 .1 .0 .own)
 
 returns : tie.Need-returns
-returns c = ((λ lent h d. paired _ _ _ _ (pair-compared (c .before .before .before .before .before .before .before .before .before .before .before .before .before .before .before .args .op) (inside (c .before .before .before .before .before .before .before .before .before .before .before .before .before .before .before .args .op) (sym (c .before .before .before .before .before .before .before .before .compares .ensures) ∙ c .before .before .before .before .before .before .before .if1 .taken) .0) (inside (c .before .before .before .before .before .before .before .before .before .before .before .before .before .before .before .args .op) (sym (c .before .before .before .before .before .before .before .before .compares .ensures) ∙ c .before .before .before .before .before .before .before .if1 .taken) .1)) (c .before .compared .ensures) (c .before .before .before .before .second-of .ensures) (c .before .before .top-of .ensures) (c .two .ensures .0 (now (c .before .before .before .before .before .before .before .before .before .before .before .before .before .before .before .args .store)) (now (c .before .before .before .before .before .before .before .before .before .before .before .before .before .before .before .args .outputs))) lent _ d), anchored-on (c .before .before .before .before .before .before .before .before .before .before .before .before .before .before .before .pre .1 .1 .1 .1 .1 .1) (c .two .ensures .1))
+returns c = ((λ lent h. by-two _ _ _ _ (family-compared (c .before .before .before .before .before .before .before .before .before .before .before .before .before .before .before .args .op) (inside (c .before .before .before .before .before .before .before .before .before .before .before .before .before .before .before .args .op) (sym (c .before .before .before .before .before .before .before .before .compares .ensures) ∙ c .before .before .before .before .before .before .before .if1 .taken) .0) (inside (c .before .before .before .before .before .before .before .before .before .before .before .before .before .before .before .args .op) (sym (c .before .before .before .before .before .before .before .before .compares .ensures) ∙ c .before .before .before .before .before .before .before .if1 .taken) .1)) (c .before .compared .ensures) (c .before .before .before .before .second-of .ensures) (c .before .before .top-of .ensures) (c .two .ensures .0 (now (c .before .before .before .before .before .before .before .before .before .before .before .before .before .before .before .args .store)) (now (c .before .before .before .before .before .before .before .before .before .before .before .before .before .before .before .args .outputs))) lent _), anchored-on (c .before .before .before .before .before .before .before .before .before .before .before .before .before .before .before .pre .1 .1 .1 .1 .1 .1) (c .two .ensures .1))
 
 read-requires : tie.Need-read-requires
 unfolding takens lefts lengths
@@ -77,25 +77,25 @@ same-length c = search needs
 
 returns-2 : tie.Need-returns-2
 unfolding instruction decodeOf row10 performOf threeOf
-returns-2 c = ((λ lent h d. rw (c .before .before .before .before .before .match .keys1) (c .before .before .read .ensures .0 lent (h .inputs) _)), anchored-on (c .before .before .before .before .before .before .before .before .before .before .before .before .before .before .pre .1 .1 .1 .1 .1 .1) (c .before .before .read .ensures .1))
+returns-2 c = ((λ lent h. rw (c .before .before .before .before .before .match .keys1) (c .before .before .read .ensures .0 lent (h .inputs) _)), anchored-on (c .before .before .before .before .before .before .before .before .before .before .before .before .before .before .pre .1 .1 .1 .1 .1 .1) (c .before .before .read .ensures .1))
 
 same-length-2 : tie.Need-same-length-2
 same-length-2 c = search needs
 
 returns-3 : tie.Need-returns-3
 unfolding instruction decodeOf row10 performOf threeOf
-returns-3 c = ((λ lent h d. rw (c .before .before .before .before .before .match .keys2) (c .before .before .write .ensures .0 lent _)), anchored-on (c .before .before .before .before .before .before .before .before .before .before .before .before .before .before .pre .1 .1 .1 .1 .1 .1) (c .before .before .write .ensures .1))
+returns-3 c = ((λ lent h. rw (c .before .before .before .before .before .match .keys2) (c .before .before .write .ensures .0 lent _)), anchored-on (c .before .before .before .before .before .before .before .before .before .before .before .before .before .before .pre .1 .1 .1 .1 .1 .1) (c .before .before .write .ensures .1))
 
 returns-4 : tie.Need-returns-4
 unfolding instruction decodeOf row10 performOf threeOf
-returns-4 c = ((λ lent h d. rw (c .before .before .before .before .before .before .before .before .before .match .keys3) (rw (c .before .within .ensures, c .before .before .top-of2 .ensures, c .before .before .before .before .second-of2 .ensures, c .before .before .before .before .before .before .third-of .ensures) at (c .three .ensures .0 (now (c .before .before .before .before .before .before .before .before .before .before .before .before .before .before .before .before .before .before .args .store)) (now (c .before .before .before .before .before .before .before .before .before .before .before .before .before .before .before .before .before .before .args .outputs))))), anchored-on (c .before .before .before .before .before .before .before .before .before .before .before .before .before .before .before .before .before .before .pre .1 .1 .1 .1 .1 .1) (c .three .ensures .1))
+returns-4 c = ((λ lent h. rw (c .before .before .before .before .before .before .before .before .before .match .keys3) (rw (c .before .within .ensures, c .before .before .top-of2 .ensures, c .before .before .before .before .second-of2 .ensures, c .before .before .before .before .before .before .third-of .ensures) at (c .three .ensures .0 (now (c .before .before .before .before .before .before .before .before .before .before .before .before .before .before .before .before .before .before .args .store)) (now (c .before .before .before .before .before .before .before .before .before .before .before .before .before .before .before .before .before .before .args .outputs))))), anchored-on (c .before .before .before .before .before .before .before .before .before .before .before .before .before .before .before .before .before .before .pre .1 .1 .1 .1 .1 .1) (c .three .ensures .1))
 
 same-length-3 : tie.Need-same-length-3
 same-length-3 c = search needs
 
 returns-5 : tie.Need-returns-5
 unfolding instruction decodeOf row10 performOf threeOf
-returns-5 c = ((λ lent h d. rw (is256 (c .before .before .before .before .before .before .before .before .before .before .before .before .before .before .before .before .args .op) (c .before .before .before .before .before .before .before .before .before .before .before .before .before .before .before .before .fits .op .fits) (c .before .before .before .before .before .before .before .before .before .before .before .before .before .before .before .before .pre .0) (c .before .before .before .before .before .before .before .before .before .before .before .before .before .before .before .before .pre .1 .0) (sym (c .before .before .before .before .before .before .before .before .before .compares .ensures) ∙ c .before .before .before .before .before .before .before .before .if1 .left) (c .before .before .before .before .before .before .before .match .rest), ← c .before .before .before .before .operand .ensures .0) (c .before .before .transfer .ensures .0 lent _ _ h _)), c .before .before .transfer .ensures .1)
+returns-5 c = ((λ lent h. rw (is256 (c .before .before .before .before .before .before .before .before .before .before .before .before .before .before .before .before .args .op) (c .before .before .before .before .before .before .before .before .before .before .before .before .before .before .before .before .fits .op .fits) (c .before .before .before .before .before .before .before .before .before .before .before .before .before .before .before .before .pre .0) (c .before .before .before .before .before .before .before .before .before .before .before .before .before .before .before .before .pre .1 .0) (sym (c .before .before .before .before .before .before .before .before .before .compares .ensures) ∙ c .before .before .before .before .before .before .before .before .if1 .left) (c .before .before .before .before .before .before .before .match .rest), ← c .before .before .before .before .operand .ensures .0) (c .before .before .transfer .ensures .0 lent _ _ h _)), c .before .before .transfer .ensures .1)
 
 pub row10-spec : {M : Type 1} → statement M
 row10-spec =

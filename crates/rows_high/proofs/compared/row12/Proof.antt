@@ -1,5 +1,5 @@
 use Rattle.rows_high.proofs.Laws.{is306, is317, from-zero}
-use Rattle.rows_high.proofs.Pairs.{pair-signed, paired}
+use Rattle.rows_high.proofs.Families.{family-signed, by-two}
 use Rattle.mcode.specs.Opcode.{takens, lefts, lengths}
 use Rattle.mcode.specs.Decode.{decodeOf, row12}
 use Rattle.mcode.specs.Step.{performOf}
@@ -53,30 +53,30 @@ two-requires c κs = omega (arith, rw (is306 (c .before .before .before .before 
 
 returns : tie.Need-returns
 unfolding instruction decodeOf row12 performOf oneOf twoOf threeOf
-returns c = ((λ lent b d store out. rw (c .before .before .match .keys1) (c .trap .ensures .0 lent 0 store out)), c .trap .ensures .1)
+returns c = ((λ lent o store out. rw (c .before .before .match .keys1) (c .trap .ensures .0 lent 0 store out)), c .trap .ensures .1)
 
 returns-2 : tie.Need-returns-2
 unfolding instruction decodeOf row12 performOf oneOf twoOf threeOf
-returns-2 c = ((λ lent b d store out. rw (c .before .before .before .before .before .before .before .before .before .match .keys2) (rw (c .before .within .ensures, c .before .before .top-of .ensures, c .before .before .before .before .second-of .ensures, c .before .before .before .before .before .before .third-of .ensures) at (c .three .ensures .0 store out))), c .three .ensures .1)
+returns-2 c = ((λ lent o store out. rw (c .before .before .before .before .before .before .before .before .before .match .keys2) (rw (c .before .within .ensures, c .before .before .top-of .ensures, c .before .before .before .before .second-of .ensures, c .before .before .before .before .before .before .third-of .ensures) at (c .three .ensures .0 store out))), c .three .ensures .1)
 
 returns-3 : tie.Need-returns-3
 unfolding instruction decodeOf row12 performOf oneOf twoOf threeOf
-returns-3 c = ((λ lent b d store out. rw (is306 (c .before .before .before .before .before .before .before .before .before .before .args .op) (c .before .before .before .before .before .before .before .before .before .before .fits .op .fits) (c .before .before .before .before .before .before .before .before .before .before .pre .0) (c .before .before .before .before .before .before .before .before .before .before .pre .1 .0) (c .before .before .before .before .before .before .before .before .if1 .taken) (c .before .before .before .before .before .before .before .match .rest)) (rw (c .before .within2 .ensures, from-zero (c .before .before .before .before .second-of2 .result), c .before .before .top-of2 .ensures, c .before .before .before .before .second-of2 .ensures) at (c .two .ensures .0 store out))), c .two .ensures .1)
+returns-3 c = ((λ lent o store out. rw (is306 (c .before .before .before .before .before .before .before .before .before .before .args .op) (c .before .before .before .before .before .before .before .before .before .before .fits .op .fits) (c .before .before .before .before .before .before .before .before .before .before .pre .0) (c .before .before .before .before .before .before .before .before .before .before .pre .1 .0) (c .before .before .before .before .before .before .before .before .if1 .taken) (c .before .before .before .before .before .before .before .match .rest)) (rw (c .before .within2 .ensures, from-zero (c .before .before .before .before .second-of2 .result), c .before .before .top-of2 .ensures, c .before .before .before .before .second-of2 .ensures) at (c .two .ensures .0 store out))), c .two .ensures .1)
 
 second-of-requires-3 : tie.Need-second-of-requires-3
-second-of-requires-3 c κs = omega (arith, pair-signed (c .before .before .before .before .before .args .op) (c .before .before .before .if1 .left) (omega (arith, c .before .before .if2 .taken)) .takes, c .before .before .before .before .before .pre .1 .1 .deep, c .before .before .before .before .before .pre .1 .1 .most)
+second-of-requires-3 c κs = omega (arith, family-signed (c .before .before .before .before .before .args .op) (c .before .before .before .if1 .left) (omega (arith, c .before .before .if2 .taken)) .takes, c .before .before .before .before .before .pre .1 .1 .deep, c .before .before .before .before .before .pre .1 .1 .most)
 
 top-of-requires-3 : tie.Need-top-of-requires-3
-top-of-requires-3 c κs = omega (arith, pair-signed (c .before .before .before .before .before .before .before .args .op) (c .before .before .before .before .before .if1 .left) (omega (arith, c .before .before .before .before .if2 .taken)) .takes, c .before .before .before .before .before .before .before .pre .1 .1 .deep, c .before .before .before .before .before .before .before .pre .1 .1 .most)
+top-of-requires-3 c κs = omega (arith, family-signed (c .before .before .before .before .before .before .before .args .op) (c .before .before .before .before .before .if1 .left) (omega (arith, c .before .before .before .before .if2 .taken)) .takes, c .before .before .before .before .before .before .before .pre .1 .1 .deep, c .before .before .before .before .before .before .before .pre .1 .1 .most)
 
 compared-signed-requires : tie.Need-compared-signed-requires
 compared-signed-requires c κs = search needs
 
 two-requires-2 : tie.Need-two-requires-2
-two-requires-2 c κs = omega (arith, pair-signed (c .before .before .before .before .before .before .before .before .before .args .op) (c .before .before .before .before .before .before .before .if1 .left) (omega (arith, c .before .before .before .before .before .before .if2 .taken)) .takes, c .before .before .before .before .before .before .before .before .before .pre .1 .1 .deep, c .before .before .before .before .before .before .before .before .before .pre .1 .1 .most, c .before .before .before .before .before .before .before .before .before .pre .1 .1 .own)
+two-requires-2 c κs = omega (arith, family-signed (c .before .before .before .before .before .before .before .before .before .args .op) (c .before .before .before .before .before .before .before .if1 .left) (omega (arith, c .before .before .before .before .before .before .if2 .taken)) .takes, c .before .before .before .before .before .before .before .before .before .pre .1 .1 .deep, c .before .before .before .before .before .before .before .before .before .pre .1 .1 .most, c .before .before .before .before .before .before .before .before .before .pre .1 .1 .own)
 
 returns-4 : tie.Need-returns-4
-returns-4 c = ((λ lent b d store out. paired _ _ _ _ (pair-signed (c .before .before .before .before .before .before .before .before .before .before .args .op) (c .before .before .before .before .before .before .before .before .if1 .left) (omega (arith, c .before .before .before .before .before .before .before .if2 .taken))) (c .before .compared-signed .ensures) (c .before .before .before .before .second-of3 .ensures) (c .before .before .top-of3 .ensures) (c .two2 .ensures .0 store out) lent b d), c .two2 .ensures .1)
+returns-4 c = ((λ lent o store out. by-two _ _ _ _ (family-signed (c .before .before .before .before .before .before .before .before .before .before .args .op) (c .before .before .before .before .before .before .before .before .if1 .left) (omega (arith, c .before .before .before .before .before .before .before .if2 .taken))) (c .before .compared-signed .ensures) (c .before .before .before .before .second-of3 .ensures) (c .before .before .top-of3 .ensures) (c .two2 .ensures .0 store out) lent o), c .two2 .ensures .1)
 
 top-of-requires-4 : tie.Need-top-of-requires-4
 unfolding takens lefts lengths
@@ -102,11 +102,11 @@ one-requires-2 c κs = omega (arith, rw (is317 (c .before .before .before .befor
 
 returns-5 : tie.Need-returns-5
 unfolding instruction decodeOf row12 performOf oneOf twoOf threeOf
-returns-5 c = ((λ lent b d store out. rw (c .before .before .before .before .before .match2 .keys1) (rw (c .before .abs .ensures, c .before .before .top-of4 .ensures) at (c .one .ensures .0 store out))), c .one .ensures .1)
+returns-5 c = ((λ lent o store out. rw (c .before .before .before .before .before .match2 .keys1) (rw (c .before .abs .ensures, c .before .before .top-of4 .ensures) at (c .one .ensures .0 store out))), c .one .ensures .1)
 
 returns-6 : tie.Need-returns-6
 unfolding instruction decodeOf row12 performOf oneOf twoOf threeOf
-returns-6 c = ((λ lent b d store out. rw (is317 (c .before .before .before .before .before .before .before .before .before .args .op) (c .before .before .before .before .before .before .before .before .before .fits .op .fits) (c .before .before .before .before .before .before .before .before .before .pre .0) (c .before .before .before .before .before .before .before .before .before .pre .1 .0) (c .before .before .before .before .before .before .if2 .left) (c .before .before .before .before .before .match2 .rest)) (rw (c .before .neg .ensures, c .before .before .top-of5 .ensures) at (c .one2 .ensures .0 store out))), c .one2 .ensures .1)
+returns-6 c = ((λ lent o store out. rw (is317 (c .before .before .before .before .before .before .before .before .before .args .op) (c .before .before .before .before .before .before .before .before .before .fits .op .fits) (c .before .before .before .before .before .before .before .before .before .pre .0) (c .before .before .before .before .before .before .before .before .before .pre .1 .0) (c .before .before .before .before .before .before .if2 .left) (c .before .before .before .before .before .match2 .rest)) (rw (c .before .neg .ensures, c .before .before .top-of5 .ensures) at (c .one2 .ensures .0 store out))), c .one2 .ensures .1)
 
 pub row12-spec : {M : Type 1} → statement M
 row12-spec =

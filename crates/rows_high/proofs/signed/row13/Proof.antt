@@ -1,5 +1,5 @@
 use Rattle.rows_high.proofs.Laws.{is336, next-own}
-use Rattle.rows_high.proofs.Pairs.{pair-bitwise, paired}
+use Rattle.rows_high.proofs.Families.{family-bitwise, by-two}
 use Rattle.mcode.specs.Opcode.{takens, lefts, lengths}
 use Rattle.mcode.specs.Decode.{decodeOf, row13}
 use Rattle.mcode.specs.Step.{performOf}
@@ -15,19 +15,19 @@ add-to : tie.Need-add-to
 add-to c = search needs
 
 second-of-requires : tie.Need-second-of-requires
-second-of-requires c κs = omega (arith, pair-bitwise (c .before .before .before .before .args .op) (omega (arith, c .before .before .before .before .pre .0)) (omega (arith, c .before .before .if1 .taken)) .takes, c .before .before .before .before .pre .1 .1 .deep, c .before .before .before .before .pre .1 .1 .most)
+second-of-requires c κs = omega (arith, family-bitwise (c .before .before .before .before .args .op) (omega (arith, c .before .before .before .before .pre .0)) (omega (arith, c .before .before .if1 .taken)) .takes, c .before .before .before .before .pre .1 .1 .deep, c .before .before .before .before .pre .1 .1 .most)
 
 top-of-requires : tie.Need-top-of-requires
-top-of-requires c κs = omega (arith, pair-bitwise (c .before .before .before .before .before .before .args .op) (omega (arith, c .before .before .before .before .before .before .pre .0)) (omega (arith, c .before .before .before .before .if1 .taken)) .takes, c .before .before .before .before .before .before .pre .1 .1 .deep, c .before .before .before .before .before .before .pre .1 .1 .most)
+top-of-requires c κs = omega (arith, family-bitwise (c .before .before .before .before .before .before .args .op) (omega (arith, c .before .before .before .before .before .before .pre .0)) (omega (arith, c .before .before .before .before .if1 .taken)) .takes, c .before .before .before .before .before .before .pre .1 .1 .deep, c .before .before .before .before .before .before .pre .1 .1 .most)
 
 bitwise-requires : tie.Need-bitwise-requires
 bitwise-requires c κs = search needs
 
 two-requires : tie.Need-two-requires
-two-requires c κs = omega (arith, pair-bitwise (c .before .before .before .before .before .before .before .before .args .op) (omega (arith, c .before .before .before .before .before .before .before .before .pre .0)) (omega (arith, c .before .before .before .before .before .before .if1 .taken)) .takes, c .before .before .before .before .before .before .before .before .pre .1 .1 .deep, c .before .before .before .before .before .before .before .before .pre .1 .1 .most, c .before .before .before .before .before .before .before .before .pre .1 .1 .own)
+two-requires c κs = omega (arith, family-bitwise (c .before .before .before .before .before .before .before .before .args .op) (omega (arith, c .before .before .before .before .before .before .before .before .pre .0)) (omega (arith, c .before .before .before .before .before .before .if1 .taken)) .takes, c .before .before .before .before .before .before .before .before .pre .1 .1 .deep, c .before .before .before .before .before .before .before .before .pre .1 .1 .most, c .before .before .before .before .before .before .before .before .pre .1 .1 .own)
 
 returns : tie.Need-returns
-returns c = ((λ lent b d store out. paired _ _ _ _ (pair-bitwise (c .before .before .before .before .before .before .before .before .before .args .op) (omega (arith, c .before .before .before .before .before .before .before .before .before .pre .0)) (omega (arith, c .before .before .before .before .before .before .before .if1 .taken))) (c .before .bitwise .ensures) (c .before .before .before .before .second-of .ensures) (c .before .before .top-of .ensures) (c .two .ensures .0 store out) lent b d), c .two .ensures .1)
+returns c = ((λ lent o store out. by-two _ _ _ _ (family-bitwise (c .before .before .before .before .before .before .before .before .before .args .op) (omega (arith, c .before .before .before .before .before .before .before .before .before .pre .0)) (omega (arith, c .before .before .before .before .before .before .before .if1 .taken))) (c .before .bitwise .ensures) (c .before .before .before .before .second-of .ensures) (c .before .before .top-of .ensures) (c .two .ensures .0 store out) lent o), c .two .ensures .1)
 
 top-of-requires-2 : tie.Need-top-of-requires-2
 unfolding takens lefts lengths
@@ -113,31 +113,31 @@ nothing-requires c κs = search needs
 
 returns-2 : tie.Need-returns-2
 unfolding instruction decodeOf row13 performOf oneOf twoOf
-returns-2 c = ((λ lent b d store out. rw (c .before .before .before .before .match .keys1, c .replace-one .ensures .0, c .replace-one .ensures .1, c .before .top-of2 .ensures)), stays-at _ _ _ _ _ _ (next-own (c .before .before .before .before .before .before .before .pre .1 .1 .own)) (c .replace-one .ensures .0))
+returns-2 c = ((λ lent o store out. rw (c .before .before .before .before .match .keys1, c .replace-one .ensures .0, c .replace-one .ensures .1, c .before .top-of2 .ensures)), stays-at _ _ _ _ _ _ (next-own (c .before .before .before .before .before .before .before .pre .1 .1 .own)) (c .replace-one .ensures .0))
 
 returns-3 : tie.Need-returns-3
 unfolding instruction decodeOf row13 performOf oneOf twoOf
-returns-3 c = ((λ lent b d store out. rw (c .before .before .before .before .before .match .keys2, c .replace-one2 .ensures .0, c .replace-one2 .ensures .1, c .before .truth .ensures, c .before .before .top-of3 .ensures)), stays-at _ _ _ _ _ _ (next-own (c .before .before .before .before .before .before .before .before .pre .1 .1 .own)) (c .replace-one2 .ensures .0))
+returns-3 c = ((λ lent o store out. rw (c .before .before .before .before .before .match .keys2, c .replace-one2 .ensures .0, c .replace-one2 .ensures .1, c .before .truth .ensures, c .before .before .top-of3 .ensures)), stays-at _ _ _ _ _ _ (next-own (c .before .before .before .before .before .before .before .before .pre .1 .1 .own)) (c .replace-one2 .ensures .0))
 
 returns-4 : tie.Need-returns-4
 unfolding instruction decodeOf row13 performOf oneOf twoOf
-returns-4 c = ((λ lent b d store out. rw (c .before .before .before .before .before .before .before .match .keys3) (rw (c .before .add .ensures, c .before .before .top-of4 .ensures, c .before .before .before .before .second-of2 .ensures) at (c .two2 .ensures .0 store out))), c .two2 .ensures .1)
+returns-4 c = ((λ lent o store out. rw (c .before .before .before .before .before .before .before .match .keys3) (rw (c .before .add .ensures, c .before .before .top-of4 .ensures, c .before .before .before .before .second-of2 .ensures) at (c .two2 .ensures .0 store out))), c .two2 .ensures .1)
 
 returns-5 : tie.Need-returns-5
 unfolding instruction decodeOf row13 performOf oneOf twoOf
-returns-5 c = ((λ lent b d store out. rw (c .before .before .before .before .before .before .before .match .keys4) (rw (c .before .sub .ensures, c .before .before .top-of5 .ensures, c .before .before .before .before .second-of3 .ensures) at (c .two3 .ensures .0 store out))), c .two3 .ensures .1)
+returns-5 c = ((λ lent o store out. rw (c .before .before .before .before .before .before .before .match .keys4) (rw (c .before .sub .ensures, c .before .before .top-of5 .ensures, c .before .before .before .before .second-of3 .ensures) at (c .two3 .ensures .0 store out))), c .two3 .ensures .1)
 
 returns-6 : tie.Need-returns-6
 unfolding instruction decodeOf row13 performOf oneOf twoOf
-returns-6 c = ((λ lent b d store out. rw (c .before .before .before .before .before .before .before .match .keys5) (rw (c .before .mul .ensures, c .before .before .top-of6 .ensures, c .before .before .before .before .second-of4 .ensures) at (c .two4 .ensures .0 store out))), c .two4 .ensures .1)
+returns-6 c = ((λ lent o store out. rw (c .before .before .before .before .before .before .before .match .keys5) (rw (c .before .mul .ensures, c .before .before .top-of6 .ensures, c .before .before .before .before .second-of4 .ensures) at (c .two4 .ensures .0 store out))), c .two4 .ensures .1)
 
 returns-7 : tie.Need-returns-7
 unfolding instruction decodeOf row13 performOf oneOf twoOf
-returns-7 c = ((λ lent b d store out. rw (c .before .before .before .before .before .before .before .match .keys6) (rw (c .before .div .ensures, c .before .before .top-of7 .ensures, c .before .before .before .before .second-of5 .ensures) at (c .two5 .ensures .0 store out))), c .two5 .ensures .1)
+returns-7 c = ((λ lent o store out. rw (c .before .before .before .before .before .before .before .match .keys6) (rw (c .before .div .ensures, c .before .before .top-of7 .ensures, c .before .before .before .before .second-of5 .ensures) at (c .two5 .ensures .0 store out))), c .two5 .ensures .1)
 
 returns-8 : tie.Need-returns-8
 unfolding instruction decodeOf row13 performOf oneOf twoOf
-returns-8 c = ((λ lent b d store out. rw (is336 (c .before .before .before .before .args .op) (c .before .before .before .before .fits .op .fits) (c .before .before .before .before .pre .0) (c .before .before .before .before .pre .1 .0) (c .before .before .if1 .left) (c .before .match .rest)) (c .nothing .ensures .0 lent _ store out)), c .nothing .ensures .1)
+returns-8 c = ((λ lent o store out. rw (is336 (c .before .before .before .before .args .op) (c .before .before .before .before .fits .op .fits) (c .before .before .before .before .pre .0) (c .before .before .before .before .pre .1 .0) (c .before .before .if1 .left) (c .before .match .rest)) (c .nothing .ensures .0 lent _ store out)), c .nothing .ensures .1)
 
 pub row13-spec : {M : Type 1} → statement M
 row13-spec =

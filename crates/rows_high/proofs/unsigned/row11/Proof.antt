@@ -1,5 +1,5 @@
 use Rattle.rows_high.proofs.Laws.{is265, is277}
-use Rattle.rows_high.proofs.Pairs.{pair-sums, paired}
+use Rattle.rows_high.proofs.Families.{family-sums, by-two}
 use Rattle.mcode.specs.Opcode.{takens, lefts, lengths}
 use Rattle.mcode.specs.Decode.{decodeOf, row11}
 use Rattle.mcode.specs.Step.{performOf}
@@ -19,22 +19,22 @@ copy-requires c κs = omega (arith, rw (is265 (c .before .before .before .args .
 
 returns : tie.Need-returns
 unfolding instruction decodeOf row11 performOf twoOf
-returns c = ((λ lent b d store out. rw (is265 (c .before .before .before .before .args .op) (c .before .before .before .before .fits .op .fits) (c .before .before .before .before .pre .0) (c .before .before .before .before .pre .1 .0) (c .before .before .if1 .taken)) (c .copy .ensures .0 lent store out)), c .copy .ensures .1)
+returns c = ((λ lent o store out. rw (is265 (c .before .before .before .before .args .op) (c .before .before .before .before .fits .op .fits) (c .before .before .before .before .pre .0) (c .before .before .before .before .pre .1 .0) (c .before .before .if1 .taken)) (c .copy .ensures .0 lent store out)), c .copy .ensures .1)
 
 second-of-requires : tie.Need-second-of-requires
-second-of-requires c κs = omega (arith, pair-sums (c .before .before .before .before .before .args .op) (c .before .before .before .if1 .left) (omega (arith, c .before .before .if2 .taken)) .takes, c .before .before .before .before .before .pre .1 .1 .deep, c .before .before .before .before .before .pre .1 .1 .most)
+second-of-requires c κs = omega (arith, family-sums (c .before .before .before .before .before .args .op) (c .before .before .before .if1 .left) (omega (arith, c .before .before .if2 .taken)) .takes, c .before .before .before .before .before .pre .1 .1 .deep, c .before .before .before .before .before .pre .1 .1 .most)
 
 top-of-requires : tie.Need-top-of-requires
-top-of-requires c κs = omega (arith, pair-sums (c .before .before .before .before .before .before .before .args .op) (c .before .before .before .before .before .if1 .left) (omega (arith, c .before .before .before .before .if2 .taken)) .takes, c .before .before .before .before .before .before .before .pre .1 .1 .deep, c .before .before .before .before .before .before .before .pre .1 .1 .most)
+top-of-requires c κs = omega (arith, family-sums (c .before .before .before .before .before .before .before .args .op) (c .before .before .before .before .before .if1 .left) (omega (arith, c .before .before .before .before .if2 .taken)) .takes, c .before .before .before .before .before .before .before .pre .1 .1 .deep, c .before .before .before .before .before .before .before .pre .1 .1 .most)
 
 sums-requires : tie.Need-sums-requires
 sums-requires c κs = search needs
 
 two-requires : tie.Need-two-requires
-two-requires c κs = omega (arith, pair-sums (c .before .before .before .before .before .before .before .before .before .args .op) (c .before .before .before .before .before .before .before .if1 .left) (omega (arith, c .before .before .before .before .before .before .if2 .taken)) .takes, c .before .before .before .before .before .before .before .before .before .pre .1 .1 .deep, c .before .before .before .before .before .before .before .before .before .pre .1 .1 .most, c .before .before .before .before .before .before .before .before .before .pre .1 .1 .own)
+two-requires c κs = omega (arith, family-sums (c .before .before .before .before .before .before .before .before .before .args .op) (c .before .before .before .before .before .before .before .if1 .left) (omega (arith, c .before .before .before .before .before .before .if2 .taken)) .takes, c .before .before .before .before .before .before .before .before .before .pre .1 .1 .deep, c .before .before .before .before .before .before .before .before .before .pre .1 .1 .most, c .before .before .before .before .before .before .before .before .before .pre .1 .1 .own)
 
 returns-2 : tie.Need-returns-2
-returns-2 c = ((λ lent b d store out. paired _ _ _ _ (pair-sums (c .before .before .before .before .before .before .before .before .before .before .args .op) (c .before .before .before .before .before .before .before .before .if1 .left) (omega (arith, c .before .before .before .before .before .before .before .if2 .taken))) (c .before .sums .ensures) (c .before .before .before .before .second-of .ensures) (c .before .before .top-of .ensures) (c .two .ensures .0 store out) lent b d), c .two .ensures .1)
+returns-2 c = ((λ lent o store out. by-two _ _ _ _ (family-sums (c .before .before .before .before .before .before .before .before .before .before .args .op) (c .before .before .before .before .before .before .before .before .if1 .left) (omega (arith, c .before .before .before .before .before .before .before .if2 .taken))) (c .before .sums .ensures) (c .before .before .before .before .second-of .ensures) (c .before .before .top-of .ensures) (c .two .ensures .0 store out) lent o), c .two .ensures .1)
 
 second-of-requires-2 : tie.Need-second-of-requires-2
 unfolding takens lefts lengths
@@ -113,23 +113,23 @@ replace-two-requires-3 c κs = omega (arith, rw (is277 (c .before .before .befor
 
 returns-3 : tie.Need-returns-3
 unfolding instruction decodeOf row11 performOf twoOf
-returns-3 c = ((λ lent b d store out. rw (c .before .before .before .before .before .before .before .match .keys1) (rw (c .before .div .ensures, c .before .before .top-of2 .ensures, c .before .before .before .before .second-of2 .ensures) at (c .two2 .ensures .0 store out))), c .two2 .ensures .1)
+returns-3 c = ((λ lent o store out. rw (c .before .before .before .before .before .before .before .match .keys1) (rw (c .before .div .ensures, c .before .before .top-of2 .ensures, c .before .before .before .before .second-of2 .ensures) at (c .two2 .ensures .0 store out))), c .two2 .ensures .1)
 
 returns-4 : tie.Need-returns-4
 unfolding instruction decodeOf row11 performOf twoOf
-returns-4 c = ((λ lent b d store out. rw (c .before .before .before .before .before .before .before .match .keys2) (rw (c .before .rem .ensures, c .before .before .top-of3 .ensures, c .before .before .before .before .second-of3 .ensures) at (c .two3 .ensures .0 store out))), c .two3 .ensures .1)
+returns-4 c = ((λ lent o store out. rw (c .before .before .before .before .before .before .before .match .keys2) (rw (c .before .rem .ensures, c .before .before .top-of3 .ensures, c .before .before .before .before .second-of3 .ensures) at (c .two3 .ensures .0 store out))), c .two3 .ensures .1)
 
 returns-5 : tie.Need-returns-5
 unfolding instruction decodeOf row11 performOf twoOf
-returns-5 c = ((λ lent b d store out. rw (c .before .before .before .before .before .before .before .match .keys3) (rw (c .before .rotate .ensures, c .before .before .top-of4 .ensures, c .before .before .before .before .second-of4 .ensures) at (c .replace-two .ensures .0 store out))), c .replace-two .ensures .1)
+returns-5 c = ((λ lent o store out. rw (c .before .before .before .before .before .before .before .match .keys3) (rw (c .before .rotate .ensures, c .before .before .top-of4 .ensures, c .before .before .before .before .second-of4 .ensures) at (c .replace-two .ensures .0 store out))), c .replace-two .ensures .1)
 
 returns-6 : tie.Need-returns-6
 unfolding instruction decodeOf row11 performOf twoOf
-returns-6 c = ((λ lent b d store out. rw (c .before .before .before .before .before .before .before .match .keys4) (rw (c .before .shl .ensures, c .before .before .top-of5 .ensures, c .before .before .before .before .second-of5 .ensures) at (c .replace-two2 .ensures .0 store out))), c .replace-two2 .ensures .1)
+returns-6 c = ((λ lent o store out. rw (c .before .before .before .before .before .before .before .match .keys4) (rw (c .before .shl .ensures, c .before .before .top-of5 .ensures, c .before .before .before .before .second-of5 .ensures) at (c .replace-two2 .ensures .0 store out))), c .replace-two2 .ensures .1)
 
 returns-7 : tie.Need-returns-7
 unfolding instruction decodeOf row11 performOf twoOf
-returns-7 c = ((λ lent b d store out. rw (is277 (c .before .before .before .before .before .before .before .before .before .before .before .args .op) (c .before .before .before .before .before .before .before .before .before .before .before .fits .op .fits) (c .before .before .before .before .before .before .before .before .before .before .before .pre .0) (c .before .before .before .before .before .before .before .before .before .before .before .pre .1 .0) (c .before .before .before .before .before .before .before .before .if2 .left) (c .before .before .before .before .before .before .before .match .rest)) (rw (c .before .shr .ensures, c .before .before .top-of6 .ensures, c .before .before .before .before .second-of6 .ensures) at (c .replace-two3 .ensures .0 store out))), c .replace-two3 .ensures .1)
+returns-7 c = ((λ lent o store out. rw (is277 (c .before .before .before .before .before .before .before .before .before .before .before .args .op) (c .before .before .before .before .before .before .before .before .before .before .before .fits .op .fits) (c .before .before .before .before .before .before .before .before .before .before .before .pre .0) (c .before .before .before .before .before .before .before .before .before .before .before .pre .1 .0) (c .before .before .before .before .before .before .before .before .if2 .left) (c .before .before .before .before .before .before .before .match .rest)) (rw (c .before .shr .ensures, c .before .before .top-of6 .ensures, c .before .before .before .before .second-of6 .ensures) at (c .replace-two3 .ensures .0 store out))), c .replace-two3 .ensures .1)
 
 pub row11-spec : {M : Type 1} → statement M
 row11-spec =

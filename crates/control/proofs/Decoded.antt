@@ -2,13 +2,14 @@
 use mathlib.Core.Path.{_≡_, refl}
 use mathlib.Core.Bool.{Bool, true, false}
 use mathlib.Core.Logic.{inr}
-use mathlib.Core.List.{List}
-use Prim.Native.Nat.{ℕ, _-_, _/_, _<_}
+use mathlib.Core.List.{List, [], _∷_}
+use Prim.Native.Nat.{ℕ, _-_, _/_, _≤_, _<_}
 use native.Mathlib.Omega.{arith}
-use lib.Dec.{eqb, ltb}
-use lib.ListN.{length}
-use borrow.Author.Tests.{eqb-true, eqb-false}
-use Rattle.mcode.specs.Word.{pick}
+use lib.Dec.{eqb, ltb, leb}
+use lib.ListN.{length, getD}
+use borrow.Author.Tests.{eqb-true, eqb-false, lt-leb}
+use Rattle.mcode.specs.Word.{pick, allBelow}
+use Rattle.mcode.specs.Opcode.{lengths}
 use Rattle.mcode.specs.Image.{procCount}
 use Rattle.mcode.specs.Machine.{State, Outcome, halt, put}
 use Rattle.mcode.specs.Decode.{decodeOf, row15, sized, Call, Follow, Load}
@@ -17,6 +18,7 @@ use Rattle.mcode.specs.declared.Position.{Position}
 use Rattle.mcode.specs.declared.Registers.{Registers}
 use Rattle.mcode.specs.declared.Stop.the-variants.{BadAddress}
 use Rattle.mcode.specs.declared.Value.the-variants.{Is, Fault}
+use Rattle.mcode.proofs.Listed.{None, among, left, one-left}
 use Rattle.actions.specs.declared.Core.{Core}
 use Rattle.actions.specs.Core.{operandAt}
 use Rattle.actions.specs.Table.{moduleIn}
@@ -30,6 +32,15 @@ follow-one lent q x = choose (ltb (x .machine .registers .l .0) (length (x .stor
     choose : (t : Bool) (v : ℕ) (f : ℕ → Outcome) → computed (pick t (Is v) (Fault BadAddress)) f ≡ pick t (f v) (halt BadAddress)
     choose true v f = refl
     choose false v f = refl
+
+-- what is left of the listed opcodes of row 14, before 354 and after it
+pub is353 : (op : ℕ) → op / 16 ≡ 14 → 1 ≤ getD lengths op 0 → op ≤ 0o354 → (op ≡ 0o354 → ⊥) → None (0o351 ∷ 0o350 ∷ 0o340 ∷ []) op → op ≡ 0o353
+unfolding allBelow left among lengths
+is353 op e l h n = one-left (λ (op : ℕ). leb 0o354 op) (0o351 ∷ 0o350 ∷ 0o340 ∷ []) 14 0o353 op refl (omega (arith, e)) e l (lt-leb 0o354 op (omega (arith, h, n)))
+
+pub is356 : (op : ℕ) → op / 16 ≡ 14 → 1 ≤ getD lengths op 0 → 0o354 < op → None (0o355 ∷ []) op → op ≡ 0o356
+unfolding allBelow left among lengths
+is356 op e l h = one-left (λ (op : ℕ). leb op 0o354) (0o355 ∷ []) 14 0o356 op refl (omega (arith, e)) e l (lt-leb op 0o354 h)
 
 -- 360 to 377
 pub decoded-call : (op : ℕ) (o : ℕ → ℕ) (r : Registers) (bases : List ℕ) → op / 16 ≡ 15 → decodeOf op o r bases ≡ sized (pick (eqb op 0o360) 2 1) (Call (pick (eqb op 0o360) (o 1) (op - 0o360)))

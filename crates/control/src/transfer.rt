@@ -66,18 +66,18 @@ fn is_sized(store: &[u16], q: usize) -> bool
     s - 1 - k <= v - Machine::MARGIN
 }
 
-// The k words that stand top first from the word at a up, as a stack.
+// The k words that stand top first from the word at a up, as a stack. Its bottom word first: from the top down the machine code is slower.
 fn words_at(store: &[u16], a: usize, k: usize) -> [u16; 16]
     requires { ⌜ (k ≤ 16) × (a + k ≤ length (now store)) ⌝ }
     ensures { λ q. ⌜ q ≡ restored (now (store .entry)) k a (replicate 16 0) ⌝ }
 {
     let mut words = [0u16; 16];
-    let mut i = a;
-    let mut n = k;
-    while 0 < n {
-        n = n - 1;
+    let mut i = a + k;
+    let mut n = 0usize;
+    while n < k {
+        i = i - 1;
         words[n] = store[i];
-        i = i + 1;
+        n = n + 1;
     }
     words
 }

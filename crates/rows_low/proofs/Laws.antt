@@ -21,6 +21,10 @@ after-two op first h a b = omega (arith, h, a, b)
 pub fourth-op : (op first : ℕ) → first ≤ op → op ≤ first + 3 → (op ≡ first → ⊥) → (op ≡ first + 1 → ⊥) → (op ≡ first + 2 → ⊥) → op ≡ first + 3
 fourth-op op first h l a b c = omega (arith, h, l, a, b, c)
 
+-- the one opcode before 024 in its row that puts no operand
+pub is021 : (op : ℕ) → (op / 16 ≡ 1) × (op < 0o24) → (op ≡ 0o20 → ⊥) → (op ≡ 0o22 → ⊥) → (op ≡ 0o23 → ⊥) → op ≡ 0o21
+is021 op (row, low) a b c = omega (arith, row, low, a, b, c)
+
 -- an opcode past first + i is not the one i places after first
 pub not-there : (op first i k : ℕ) → k < op → first + i ≤ k → eqb (op - first) i ≡ false
 not-there op first i k h l = ne-eqb (op - first) i (λ e. omega (arith, h, l, e))

@@ -43,12 +43,11 @@ pub fn row0(op: u8, r: Core, stack: &mut [u16; 16]) -> Stepped
     put_word(r, stack, wide(op), r.pc + 1)
 }
 
-// 020, 022 and 023 put an operand, 024 to 027 a sum; 030 to 037 jump. The other of the row is not listed.
-pub fn row1(op: u8, r: Core, image: &[u8], table: &[u16; 193], stack: &mut [u16; 16]) -> Stepped
-    requires { ⌜ op / 16 ≡ 1 ⌝ }
+// 020, 022 and 023 put an operand. 021 is not listed.
+fn operands(op: u8, r: Core, image: &[u8], stack: &mut [u16; 16]) -> Stepped
+    requires { ⌜ (op / 16 ≡ 1) × (op < 0o24) ⌝ }
     requires { ⌜ Ready op r (length (now image)) ⌝ }
-    requires { ⌜ (namesModule op ≡ true → operandAt (now image) r 1 < 32) ⌝ }
-    ensures { λ q. ⌜ ((lent : Lent) → Based (now (table .entry)) r (basesOf (lent .program)) → (store out : List ℕ) → result q (now (stack .exit)) store out ≡ instruction lent op (operandAt (now (image .entry)) r) r (now (stack .entry)) store out) × Stays r (q .core) ⌝ }
+    ensures { λ q. ⌜ ((lent : Lent) (store out : List ℕ) → result q (now (stack .exit)) store out ≡ instruction lent op (operandAt (now (image .entry)) r) r (now (stack .entry)) store out) × Stays r (q .core) ⌝ }
 {
     match op {
         0o20 => put_word(r, stack, operand(r, image, 1), r.pc + 2),
@@ -60,6 +59,22 @@ pub fn row1(op: u8, r: Core, image: &[u8], table: &[u16; 193], stack: &mut [u16;
             operand_word(r, image, 3),
             r.pc + 5,
         ),
+        _ => nothing(r, r.pc),
+    }
+}
+
+// 020, 022 and 023 put an operand, 024 to 027 a sum; 030 to 037 jump. The operands are tested before the match, which is a second
+// jump table: they are common, and long programs mispredict such a jump.
+pub fn row1(op: u8, r: Core, image: &[u8], table: &[u16; 193], stack: &mut [u16; 16]) -> Stepped
+    requires { ⌜ op / 16 ≡ 1 ⌝ }
+    requires { ⌜ Ready op r (length (now image)) ⌝ }
+    requires { ⌜ (namesModule op ≡ true → operandAt (now image) r 1 < 32) ⌝ }
+    ensures { λ q. ⌜ ((lent : Lent) → Based (now (table .entry)) r (basesOf (lent .program)) → (store out : List ℕ) → result q (now (stack .exit)) store out ≡ instruction lent op (operandAt (now (image .entry)) r) r (now (stack .entry)) store out) × Stays r (q .core) ⌝ }
+{
+    if op < 0o24 {
+        return operands(op, r, image, stack);
+    }
+    match op {
         0o24 => put_word(r, stack, plus(r.l, operand(r, image, 1)).0, r.pc + 2),
         0o25 => put_word(r, stack, plus(r.g, operand(r, image, 1)).0, r.pc + 2),
         0o26 => add_top(r, stack, operand(r, image, 1), r.pc + 2),

@@ -49,7 +49,7 @@ row13-requires : tie.Need-row13-requires
 row13-requires c κs = (c .before .match .keys14, (listed-in (c .before .before .before .before .before .before .before .pre .0) 13 (c .before .match .keys14) refl, stacked (c .before .before .before .before .before .before .before .pre .0)))
 
 row14-requires : tie.Need-row14-requires
-row14-requires c κs = (c .before .before .match .keys15, ((λ n. (c .before .before .before .before .before .before .before .before .pre .0 .controls, c .before .before .before .before .before .before .before .before .pre .0 .mapped)), c .before .before .before .before .before .before .before .before .pre .0 .anchored))
+row14-requires c κs = (c .before .before .match .keys15, ((λ n. (c .before .before .before .before .before .before .before .before .pre .0 .controls, c .before .before .before .before .before .before .before .before .pre .0 .mapped, c .before .before .before .before .before .before .before .before .pre .0 .listed n)), c .before .before .before .before .before .before .before .before .pre .0 .anchored))
 
 row15-requires : tie.Need-row15-requires
 row15-requires c κs = ((omega (arith, past _ 15 (c .before .match .rest))), (c .before .before .before .before .before .before .before .pre .0 .controls, c .before .before .before .before .before .before .before .pre .0 .anchored))

@@ -1,8 +1,8 @@
 //! Freshly generated cases on both sides: load, start and the list of runs, with all buffers and machines compared after each call.
 
+use crate::sides::{Compared, Sides};
 use crate::words::words;
 use cembuxola::{c as engine, ANSWER_NUMBERS, MACHINE_WORDS};
-use crate::sides::{Compared, Sides};
 use second::case::Case;
 use second::gen;
 use std::collections::BTreeMap;

@@ -1,5 +1,7 @@
 //! `bench`: both sides timed. `bench --compare N [SEED]`: N generated cases compared. bench/run builds and calls it.
+//! `bench --beside FOLDER PASSES`: two builds of the library timed. bench/beside makes the folder and calls it.
 
+mod beside;
 mod compare;
 mod images;
 mod mixed;
@@ -9,7 +11,7 @@ mod words;
 
 use std::process::ExitCode;
 
-const USAGE: &str = "usage: bench | bench --compare N [SEED]";
+const USAGE: &str = "usage: bench | bench --compare N [SEED] | bench --beside FOLDER PASSES";
 
 fn number(text: &str) -> Result<u64, String> {
     text.parse()
@@ -35,6 +37,9 @@ fn main() -> ExitCode {
         [] => speed::speed(),
         ["--compare", count] => compare(count, "1"),
         ["--compare", count, seed] => compare(count, seed),
+        ["--beside", folder, passes] => {
+            number(passes).and_then(|passes| beside::beside(folder, passes))
+        }
         _ => Err(USAGE.into()),
     };
     match done {

@@ -5,7 +5,7 @@ use crate::images::{plain, Code, Loop, MODULE_WORDS};
 use second::assemble::Source;
 use second::gen::rng::Rng;
 
-const SEED: u64 = 300;
+pub const SEED: u64 = 300;
 /// Words of data, and locals.
 const WORDS: usize = 32;
 /// The first local's and the first data word's place in the frame and in the module.
@@ -109,8 +109,8 @@ fn statement(rng: &mut Rng, code: &mut Code) {
 }
 
 /// A loop of so many statements.
-fn mixed(name: &'static str, statements: u32) -> Loop {
-    let mut rng = Rng::for_case(SEED, u64::from(statements));
+fn mixed(name: &'static str, statements: u32, seed: u64) -> Loop {
+    let mut rng = Rng::for_case(seed, u64::from(statements));
     let mut code = Code::with_locals(WORDS as u8);
     let top = code.here();
     for _ in 0..statements {
@@ -125,9 +125,10 @@ fn mixed(name: &'static str, statements: u32) -> Loop {
     plain(name, &[module])
 }
 
-pub fn programs() -> Vec<Loop> {
-    vec![
-        mixed("300 mixed statements", 300),
-        mixed("3,000 mixed statements", 3_000),
+/// The programs that `bench` times have the seed [`SEED`].
+pub fn programs(seed: u64) -> [Loop; 2] {
+    [
+        mixed("300 mixed statements", 300, seed),
+        mixed("3,000 mixed statements", 3_000, seed),
     ]
 }

@@ -5,8 +5,8 @@ use crate::mixed;
 use crate::sides::{Compared, Sides};
 use std::time::Instant;
 
-const WORDS: usize = 4_096;
-const INPUTS: [u16; 16] = [3; 16];
+pub const WORDS: usize = 4_096;
+pub const INPUTS: [u16; 16] = [3; 16];
 /// Steps of a timed run, and of the compared one.
 const STEPS: u32 = 1_000_000;
 const ROUNDS: u32 = 40;
@@ -26,8 +26,9 @@ fn least_times(mut ours: impl FnMut(), mut theirs: impl FnMut()) -> [f64; 2] {
     least
 }
 
-fn line(name: &str, unit: &str, [ours, theirs]: [f64; 2], ratio: f64) {
-    println!("{name:24} {ours:9.2} {theirs:9.2} {unit:8} {ratio:6.2}");
+/// A line of the table: both sides and the ratio of their times.
+pub fn line(name: &str, unit: &str, [one, other]: [f64; 2], ratio: f64) {
+    println!("{name:28} {one:9.2} {other:9.2} {unit:8} {ratio:6.2}");
 }
 
 /// An image that both sides accept and start, with the words of the patches written.
@@ -120,13 +121,13 @@ pub fn speed() -> Compared<()> {
     };
     let long = images::long_images();
     println!(
-        "{:24} {:>9} {:>9} {:8} {:>6}",
+        "{:28} {:>9} {:>9} {:8} {:>6}",
         "", "proved", "second", "", "ratio"
     );
     println!("steps of short loops (ratio of times: below 1 the proved engine is faster)");
     time_loops(&images::loops())?;
     println!("steps of mixed programs");
-    time_loops(&mixed::programs())?;
+    time_loops(&mixed::programs(mixed::SEED))?;
     println!("load");
     for one in &long {
         time_load(one).map_err(of(one.name))?;

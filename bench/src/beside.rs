@@ -1,0 +1,313 @@
+//! Two builds of the library in one process, each in sixteen layouts of code and store, in turn. Where the code comes to lie moves a figure by
+//! some percent, where the store lies to the stack of run, modulo 4,096 bytes, moves calls at a few places by a third, and the machine has
+//! slow phases. The mean of the layouts, each the least of many runs spread over the whole time, is moved little by any of them.
+
+use crate::images::{self, Loop};
+use crate::mixed;
+use crate::sides::Compared;
+use crate::speed::{line, INPUTS, WORDS};
+use cembuxola::{ANSWER_NUMBERS, MACHINE_WORDS};
+use std::ffi::{c_char, c_int, c_void, CString};
+use std::time::Instant;
+
+/// Places of the code, in bytes from a multiple of 64: what bench/beside names its shared objects by.
+const PLACES: [usize; 4] = [0, 16, 32, 48];
+/// Layouts: the code at one place after another, the store 272 bytes on each time, so that it lies elsewhere in its page and in its line.
+const LAYOUTS: usize = 16;
+const STRIDE: usize = 272;
+const PAGE: usize = 4_096;
+/// Steps of a timed run.
+const STEPS: u32 = 300_000;
+/// Runs in turn before the other build has its turn: the first of them teach the predictor of jumps.
+const RUNS: u32 = 4;
+/// Mixed programs of each size.
+const MIXED: u64 = 7;
+const NOW: c_int = 2;
+
+extern "C" {
+    fn dlopen(path: *const c_char, how: c_int) -> *mut c_void;
+    fn dlsym(object: *mut c_void, name: *const c_char) -> *mut c_void;
+}
+
+type Load = unsafe extern "C" fn(*const u8, usize, *mut u8, usize) -> u16;
+type Start = unsafe extern "C" fn(*const u8, usize, *mut u16, usize, *mut u16, usize) -> u16;
+type Run = unsafe extern "C" fn(
+    *mut u16,
+    usize,
+    *const u8,
+    usize,
+    *const u8,
+    usize,
+    *mut u16,
+    usize,
+    *mut u16,
+    usize,
+    *const u16,
+    usize,
+    *mut u32,
+    usize,
+    u32,
+) -> u16;
+
+/// A build of the library at one place.
+struct Build {
+    load: Load,
+    start: Start,
+    run: Run,
+}
+
+/// A program on one build, with buffers of its own. The store is the words from `at` on.
+struct Begun<'a> {
+    build: &'a Build,
+    image: &'a [u8],
+    map: Vec<u8>,
+    words: Vec<u16>,
+    at: usize,
+    outputs: [u16; 16],
+    machine: [u16; MACHINE_WORDS],
+}
+
+impl Build {
+    /// A shared object of the library; it stays open.
+    fn open(path: &str) -> Compared<Build> {
+        let name = CString::new(path).map_err(|error| error.to_string())?;
+        // SAFETY: a path, and the names of functions, as C strings.
+        let object = unsafe { dlopen(name.as_ptr(), NOW) };
+        if object.is_null() {
+            return Err(format!("{path} cannot be opened"));
+        }
+        let function = |name: &std::ffi::CStr| match unsafe { dlsym(object, name.as_ptr()) } {
+            found if found.is_null() => Err(format!("{path} has no {name:?}")),
+            found => Ok(found),
+        };
+        // SAFETY: include/cembuxola.h declares the functions so.
+        unsafe {
+            Ok(Build {
+                load: std::mem::transmute::<*mut c_void, Load>(function(c"cembuxola_load")?),
+                start: std::mem::transmute::<*mut c_void, Start>(function(c"cembuxola_start")?),
+                run: std::mem::transmute::<*mut c_void, Run>(function(c"cembuxola_run")?),
+            })
+        }
+    }
+}
+
+impl<'a> Begun<'a> {
+    /// With the store so many bytes after a multiple of 4,096. None where load or start refuses: a library from before a request does not
+    /// know its instructions.
+    fn new(build: &'a Build, program: &'a Loop, offset: usize) -> Option<Begun<'a>> {
+        let image = &program.image;
+        let words = vec![0; WORDS + PAGE / 2];
+        let at = (2 * PAGE + offset - words.as_ptr() as usize % PAGE) % PAGE / 2;
+        let mut begun = Begun {
+            build,
+            image,
+            map: vec![0; image.len()],
+            words,
+            at,
+            outputs: [0; 16],
+            machine: [0; MACHINE_WORDS],
+        };
+        if begun.load() != 0 || begun.start() != 0 {
+            return None;
+        }
+        for &(address, word) in &program.patches {
+            begun.store()[usize::from(address)] = word;
+        }
+        Some(begun)
+    }
+
+    fn store(&mut self) -> &mut [u16] {
+        &mut self.words[self.at..self.at + WORDS]
+    }
+
+    fn load(&mut self) -> u16 {
+        let (image, map) = (self.image, &mut self.map);
+        // SAFETY: each pointer and length are those of a slice, and the slice that is written overlaps no other; below too.
+        unsafe { (self.build.load)(image.as_ptr(), image.len(), map.as_mut_ptr(), map.len()) }
+    }
+
+    fn start(&mut self) -> u16 {
+        let store = self.store().as_mut_ptr();
+        let (image, machine) = (self.image, &mut self.machine);
+        unsafe {
+            (self.build.start)(
+                image.as_ptr(),
+                image.len(),
+                store,
+                WORDS,
+                machine.as_mut_ptr(),
+                machine.len(),
+            )
+        }
+    }
+
+    fn run(&mut self, n: u32) -> u16 {
+        let mut answer = [0; ANSWER_NUMBERS];
+        let store = self.store().as_mut_ptr();
+        unsafe {
+            (self.build.run)(
+                self.machine.as_mut_ptr(),
+                self.machine.len(),
+                self.image.as_ptr(),
+                self.image.len(),
+                self.map.as_ptr(),
+                self.map.len(),
+                store,
+                WORDS,
+                self.outputs.as_mut_ptr(),
+                self.outputs.len(),
+                INPUTS.as_ptr(),
+                INPUTS.len(),
+                answer.as_mut_ptr(),
+                answer.len(),
+                n,
+            )
+        }
+    }
+}
+
+/// What is timed of a program.
+#[derive(Clone, Copy)]
+enum Kind {
+    Steps,
+    Load,
+    Tests,
+}
+
+impl Kind {
+    /// One timed call, in seconds, or an answer that it should not give.
+    fn time(self, begun: &mut Begun) -> Compared<f64> {
+        let begin = Instant::now();
+        let (number, wanted) = match self {
+            Kind::Steps => (begun.run(STEPS), 30),
+            Kind::Load => (begun.load(), 0),
+            Kind::Tests => (begun.run(0), 30),
+        };
+        let time = begin.elapsed().as_secs_f64();
+        if number == wanted {
+            Ok(time)
+        } else {
+            Err(format!("{number} is answered, not {wanted}"))
+        }
+    }
+
+    /// What its lines count in, and how many of it a second has.
+    fn unit(self) -> (&'static str, f64) {
+        match self {
+            Kind::Steps => ("ns/step", 1e9 / f64::from(STEPS)),
+            Kind::Load | Kind::Tests => ("us", 1e6),
+        }
+    }
+}
+
+/// The least seconds of each build in each layout; infinite where it refuses the program.
+type Least = [[f64; LAYOUTS]; 2];
+
+struct Work {
+    name: String,
+    kind: Kind,
+    program: Loop,
+    least: Least,
+}
+
+impl Work {
+    fn new(name: &str, kind: Kind, program: Loop) -> Work {
+        Work {
+            name: name.to_string(),
+            kind,
+            program,
+            least: [[f64::INFINITY; LAYOUTS]; 2],
+        }
+    }
+
+    /// One more turn of each build in each layout.
+    fn turn(&mut self, builds: &[[Build; PLACES.len()]; 2]) -> Compared<()> {
+        for layout in 0..LAYOUTS {
+            let offset = STRIDE * layout;
+            for (side, build) in builds.iter().enumerate() {
+                let build = &build[layout % PLACES.len()];
+                let Some(mut begun) = Begun::new(build, &self.program, offset) else {
+                    continue;
+                };
+                let least = &mut self.least[side][layout];
+                for _ in 0..RUNS {
+                    *least = least.min(self.kind.time(&mut begun)?);
+                }
+            }
+        }
+        Ok(())
+    }
+
+    /// The mean of the layouts, of each build.
+    fn means(&self) -> [f64; 2] {
+        self.least
+            .map(|times| times.iter().sum::<f64>() / times.len() as f64)
+    }
+}
+
+/// All works: the short loops, the mixed programs of several seeds, load and the test of a map.
+fn works() -> Vec<Work> {
+    let mut all = Vec::new();
+    for program in images::loops() {
+        all.push(Work::new(program.name, Kind::Steps, program));
+    }
+    for seed in mixed::SEED..mixed::SEED + MIXED {
+        for program in mixed::programs(seed) {
+            all.push(Work::new(program.name, Kind::Steps, program));
+        }
+    }
+    for (kind, title) in [(Kind::Load, "load"), (Kind::Tests, "n = 0")] {
+        for long in images::long_images() {
+            let program = Loop {
+                name: long.name,
+                image: long.image,
+                patches: Vec::new(),
+            };
+            all.push(Work::new(&format!("{title}: {}", long.name), kind, program));
+        }
+    }
+    all
+}
+
+/// A line for the works of one name: the geometric mean of each build, infinite where one refuses.
+fn print(works: &[&Work]) {
+    let (unit, scale) = works[0].kind.unit();
+    let mut logs = [0.0; 2];
+    for work in works {
+        for (log, time) in logs.iter_mut().zip(work.means()) {
+            *log += (time * scale).ln() / works.len() as f64;
+        }
+    }
+    let [one, other] = logs.map(f64::exp);
+    line(&works[0].name, unit, [one, other], other / one);
+}
+
+/// Times the builds in the shared objects that bench/beside made in this folder.
+pub fn beside(folder: &str, passes: u64) -> Compared<()> {
+    let open = |side: &str, place: usize| Build::open(&format!("{folder}/{side}.{place}.so"));
+    let mut builds = Vec::new();
+    for side in ["before", "after"] {
+        let [a, b, c, d] = PLACES.map(|place| open(side, place));
+        builds.push([a?, b?, c?, d?]);
+    }
+    let builds: [[Build; PLACES.len()]; 2] = builds.try_into().map_err(|_| "two builds")?;
+    let mut works = works();
+    for _ in 0..passes {
+        for work in &mut works {
+            work.turn(&builds)
+                .map_err(|error| format!("{}: {error}", work.name))?;
+        }
+    }
+    println!(
+        "{:28} {:>9} {:>9} {:8} {:>6}",
+        "", "before", "after", "", "ratio"
+    );
+    let mut names: Vec<&str> = works.iter().map(|work| work.name.as_str()).collect();
+    let mut seen = std::collections::HashSet::new();
+    names.retain(|name| seen.insert(*name));
+    for name in names {
+        let same: Vec<&Work> = works.iter().filter(|work| work.name == name).collect();
+        print(&same);
+    }
+    Ok(())
+}

@@ -46,10 +46,12 @@ loop-less c = search needs
 loop-again : tie.Need-loop-again Inv-loop μ-loop
 loop-again c =
     let b = c .before .before .loop .inv in
-    let l = c .before .loop-test .taken in
-    (omega (arith, l), omega (arith, b .1, l),
-     ap (λ (w : List ℕ). set w (c .before .before .loop .n) (getD (c .before .before .before .args .store .now) (c .before .before .loop .i - 1) 0)) (b .2)
-     ∙ restored-up _ _ _ _ (let z : 0 < c .before .before .loop .i = omega (arith, b .1, l) in z))
+    let l = c .before .loop-test .taken in (
+      omega (arith, l),
+      omega (arith, b .1, l),
+      ap (λ (w : List ℕ). set w (c .before .before .loop .n) (getD (c .before .before .before .args .store .now) (c .before .before .loop .i - 1) 0)) (b .2)
+          ∙ restored-up _ _ _ _ (let z : 0 < c .before .before .loop .i = omega (arith, b .1, l) in z),
+    )
 
 returns : tie.Need-returns Inv-loop μ-loop
 returns c =

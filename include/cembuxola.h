@@ -79,8 +79,8 @@ enum {
     CEMBUXOLA_PROGRAM = 40       /* trap by the program, with its code */
 };
 
-/* Tests an image and fills its map: one byte an image byte, the depth of the expression stack at each position that can be reached,
- * FF hex elsewhere. Answers 0, or a refusal 1 to 8.
+/* Tests an image and fills its map, one byte an image byte: at each position that can be reached the depth of the expression stack plus
+ * 17 times the results of the procedure that it belongs to, 0 to 84; FF hex elsewhere. Answers 0, or a refusal 1 to 8.
  *   image  read
  *   map    as long as the image or longer. 0: filled over the image's length. 8: FF hex over the image's length. Every other refusal
  *          leaves it as it was. Bytes past the image's length are never written. */

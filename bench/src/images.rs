@@ -271,27 +271,31 @@ pub fn loops() -> Vec<Loop> {
     ]
 }
 
-/// Two modules of procedures with statements, a loop, a test and two calls each: about 60 KB.
-fn ordinary() -> Long {
+/// Two modules of procedures with statements, a loop, a test and two calls each, all with no results or with 0 to 4 in turn: about 60 KB.
+fn procedures(name: &'static str, most_results: u8, statements: u8) -> Long {
     const PROCEDURES: u8 = 240;
     const MOST_BYTES: usize = 30_000;
     let module = |other: u8| {
         let mut code = Code(Vec::new());
         let mut procedures = Vec::new();
         for index in 0..PROCEDURES {
-            procedures.push(procedure(code.here(), 0, 0));
+            let results = index % (most_results + 1);
+            let taken = [0o064].repeat(results.into());
+            procedures.push(procedure(code.here(), 0, results));
             code.put(&[0o353, 8]);
             let top = code.here();
             code.put(&[0o044, 1, 0o270, 0o064, 0o103, 0o044, 0o270, 0o123]);
             code.put(&[0o044, 0o022, 1, 0, 0o252]);
             code.over(0o032, |code| {
-                code.put(&[0o045, 3, 0o330, 0o065, 0o360, index, 0o355, other, index]);
+                code.put(&[0o045, 3, 0o330, 0o065, 0o360, index])
+                    .put(&taken);
+                code.put(&[0o355, other, index]).put(&taken);
             });
             code.put(&[0o044, 0o020, 100, 0o255]).back(0o034, top);
-            for local in 0..22 {
+            for local in 0..statements {
                 code.put(&[0o044 + local % 8, 2, 0o272, 0o064 + local % 8]);
             }
-            code.put(&[0o354]);
+            code.put(&[0o044].repeat(results.into())).put(&[0o354]);
         }
         assert!(code.here() <= MOST_BYTES);
         Source {
@@ -300,7 +304,7 @@ fn ordinary() -> Long {
         }
     };
     Long {
-        name: "ordinary image",
+        name,
         image: encode(&[module(1), module(0)]),
     }
 }
@@ -345,5 +349,11 @@ fn forks() -> Long {
 }
 
 pub fn long_images() -> Vec<Long> {
-    vec![ordinary(), straight(), backward_jumps(), forks()]
+    vec![
+        procedures("ordinary image", 0, 22),
+        procedures("function procedures", 4, 20),
+        straight(),
+        backward_jumps(),
+        forks(),
+    ]
 }

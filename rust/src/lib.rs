@@ -146,7 +146,7 @@ impl Cabinet {
         &self.store
     }
 
-    /// Load's depths, one byte an image byte, FF hex where unmarked.
+    /// Load's marks, one byte an image byte: the depth plus 17 times the results of the procedure, FF hex where unmarked.
     pub fn map(&self) -> &[u8] {
         &self.map
     }

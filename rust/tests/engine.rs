@@ -108,6 +108,11 @@ fn refusals_of_run_leave_everything() {
     load(&READING, &mut map).unwrap();
     let mut unfit = map;
     unfit[0] = 0;
+    // depths in a procedure of 5 results, which there is not
+    let mut five = map;
+    for byte in &mut five[4..] {
+        *byte += 85;
+    }
     // no position of depth 1 is marked at 0
     let mut broken = Machine {
         words: [0; MACHINE_WORDS],
@@ -116,6 +121,7 @@ fn refusals_of_run_leave_everything() {
     let cases = [
         (machine, &map[..7], 167, 16, Refusal::MapShort),
         (machine, &unfit[..], 166, 16, Refusal::MapUnfit),
+        (machine, &five[..], 166, 16, Refusal::MapUnfit),
         (machine, &map[..], 166, 15, Refusal::StoreSize),
         (broken, &map[..], 167, 15, Refusal::ChannelCount),
         (broken, &map[..], 167, 16, Refusal::NotAMachine),
@@ -138,6 +144,27 @@ fn refusals_of_run_leave_everything() {
             (after, store_after, outputs),
             (machine, store, [5; CHANNELS])
         );
+    }
+}
+
+#[test]
+fn a_return_carries_what_was_promised() {
+    // procedure 1 promises this many results and returns with two words
+    let image = |results: u8| {
+        let records = [0, 0, 0, 0, 0, 3, 0, results];
+        [
+            &[1, 2, 2, 0, 6][..],
+            &records,
+            &[0xF1, 0xC4, 0xEC, 2, 7, 0xEC],
+        ]
+        .concat()
+    };
+    let mut cabinet = Cabinet::new(&image(2), 4096).unwrap();
+    assert_eq!(cabinet.map()[13..], [0, 2, 255, 34, 35, 36]);
+    assert_eq!(cabinet.run(&INPUTS, 9).stop, Stop::Program(7));
+    for results in [0, 1, 3, 4] {
+        let refusal = Cabinet::new(&image(results), 4096).unwrap_err();
+        assert_eq!(refusal, Refusal::NoDepths);
     }
 }
 

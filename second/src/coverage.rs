@@ -1,4 +1,5 @@
-//! What generated cases reach: opcodes, traps of opcodes, refusals.
+//! What generated cases reach: opcodes, traps of opcodes, refusals, and what A.2
+//! makes of result counts.
 
 use crate::case::{replay, Case};
 use crate::exec::Observer;
@@ -7,6 +8,7 @@ use crate::machine::Machine;
 use crate::number::*;
 use crate::opcode::{self, row, PAIRS};
 use crate::pair::first_address;
+use crate::results::Results;
 use std::fmt::Write;
 
 /// Counts of what was reached.
@@ -21,6 +23,7 @@ pub struct Coverage {
     load: [u64; 13],
     start: [u64; 13],
     run: [u64; 13],
+    results: Results,
     cases: u64,
 }
 
@@ -86,6 +89,7 @@ impl Coverage {
             load: [0; 13],
             start: [0; 13],
             run: [0; 13],
+            results: Results::default(),
             cases: 0,
         };
         cases.for_each(|case| coverage.add(&case));
@@ -97,6 +101,7 @@ impl Coverage {
         let outcome = replay(case, &mut self.steps);
         self.load[usize::from(outcome.load)] += 1;
         self.start[usize::from(outcome.start)] += 1;
+        self.results.add(case, &outcome);
         for run in outcome.runs {
             let answer = run.answer;
             match answer.number {
@@ -147,6 +152,7 @@ impl Coverage {
             }
         }
         faults.extend(self.pair_faults());
+        faults.extend(self.results.faults());
         if self.spent == 0 {
             faults.push("no run stopped with 30".into());
         }
@@ -214,6 +220,9 @@ impl Coverage {
             };
             let title = format!("pairs stopped with 32 {failing}");
             line(&title, PAIRS.map(pair).to_vec());
+        }
+        for (reached, kinds) in self.results.lines() {
+            line(reached, kinds);
         }
         let listed: Vec<u8> = opcode::listed().collect();
         for opcodes in listed.chunks(8) {

@@ -34,7 +34,6 @@ impl Observer for () {
 #[derive(Clone, Copy)]
 struct Here<'a> {
     code: &'a [u8],
-    marks: &'a [u8],
     procedures: &'a [Procedure],
     /// G.
     base: u16,
@@ -43,12 +42,10 @@ struct Here<'a> {
 impl<'a> Here<'a> {
     /// Inlined so that the loop keeps the parts in registers.
     #[inline(always)]
-    fn new(program: &'a Program, image: &'a [u8], map: &'a [u8], module: u8) -> Here<'a> {
+    fn new(program: &'a Program, image: &'a [u8], module: u8) -> Here<'a> {
         let index = usize::from(module);
-        let range = program.modules[index].code_range();
         Here {
-            code: &image[range.clone()],
-            marks: &map[range],
+            code: &image[program.modules[index].code_range()],
             procedures: program.procedures(index),
             base: program.modules[index].base as u16,
         }
@@ -85,7 +82,7 @@ pub fn execute<O: Observer>(
     } = machine;
     let mut pc = usize::from(machine.pc);
     let mut depth = usize::from(machine.depth);
-    let mut here = Here::new(program, image, map, module);
+    let mut here = Here::new(program, image, module);
     let mut left = n;
 
     // The word `i` places from the top: 1 is the paper's a, 2 its c, 3 its e.
@@ -546,7 +543,7 @@ pub fn execute<O: Observer>(
                 mark!(here.base, (pc + 3) as u16 + Machine::FAR);
                 let number = byte!(2);
                 module = byte!(1);
-                here = Here::new(program, image, map, module);
+                here = Here::new(program, image, module);
                 pc = usize::from(here.procedures[usize::from(number)].entry);
             }
             0o356 => {
@@ -566,7 +563,8 @@ pub fn execute<O: Observer>(
             // "354: L above H is 34. Word L+2 of 7FFF hex ends. Below 8000 hex
             // it is a position here, else minus 8000 hex in the module whose
             // base is word L. No such module, or no mark equal to the current
-            // depth there: 34. S = L, L = word L+1."
+            // depth there: 34. S = L, L = word L+1." The result counts of both
+            // positions may differ.
             0o354 => {
                 if l > h {
                     break (number::RETURN_MARK, 0);
@@ -579,18 +577,17 @@ pub fn execute<O: Observer>(
                     break (number::ENDED, 0);
                 }
                 if position < Machine::FAR {
-                    let position = usize::from(position);
-                    if here.marks.get(position) != Some(&(depth as u8)) {
+                    if !program.is_marked(map, usize::from(module), position, depth as u8) {
                         break (number::RETURN_MARK, 0);
                     }
-                    pc = position;
+                    pc = usize::from(position);
                 } else {
                     let position = position - Machine::FAR;
                     let Some(target) = marked(program, map, base, position, depth as u8) else {
                         break (number::RETURN_MARK, 0);
                     };
                     module = target;
-                    here = Here::new(program, image, map, module);
+                    here = Here::new(program, image, module);
                     pc = usize::from(position);
                 }
                 s = l;
@@ -612,7 +609,7 @@ pub fn execute<O: Observer>(
                     } = resumed;
                     pc = usize::from(resumed.pc);
                     depth = usize::from(resumed.depth);
-                    here = Here::new(program, image, map, module);
+                    here = Here::new(program, image, module);
                 }
             },
 
@@ -658,7 +655,9 @@ fn follow_links(store: &[u16], l: u16, b: u8) -> Option<u16> {
 /// this depth: for returns and transfers.
 fn marked(program: &Program, map: &[u8], base: u16, position: u16, depth: u8) -> Option<u8> {
     let module = program.module_at(base)?;
-    (program.mark(map, module, position) == Some(depth)).then_some(module as u8)
+    program
+        .is_marked(map, module, position, depth)
+        .then_some(module as u8)
 }
 
 /// "256 b, TRANSFER: a and c are addresses (32, a first); q = word a." Answers

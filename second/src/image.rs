@@ -1,5 +1,6 @@
 //! The image: its parts in reading order, and refusals 1 to 6.
 
+use crate::depths::Mark;
 use crate::machine::Machine;
 use crate::number;
 
@@ -13,7 +14,7 @@ pub struct Procedure {
 }
 
 /// "If not, one procedure 0, entry 0, no parameters or results."
-const ONLY_PROCEDURE: Procedure = Procedure {
+pub const ONLY_PROCEDURE: Procedure = Procedure {
     entry: 0,
     parameters: 0,
     results: 0,
@@ -71,16 +72,17 @@ impl Program {
 
     /// The mark of a position in a tested map. A position at or beyond the
     /// code's length has none.
-    pub fn mark(&self, map: &[u8], module: usize, position: u16) -> Option<u8> {
+    pub fn mark(&self, map: &[u8], module: usize, position: u16) -> Option<Mark> {
         let module = self.modules.get(module)?;
-        let position = usize::from(position);
-        if position >= module.code_length {
-            return None;
-        }
-        match map[module.code_start + position] {
-            crate::depths::UNMARKED => None,
-            depth => Some(depth),
-        }
+        let part = &map[module.code_range()];
+        Mark::decode(*part.get(usize::from(position))?)
+    }
+
+    /// Whether a position is marked with this depth, for landings, restores and
+    /// refusal 11. A.2: "A landing still compares the depth only."
+    pub fn is_marked(&self, map: &[u8], module: usize, position: u16, depth: u8) -> bool {
+        self.mark(map, module, position)
+            .is_some_and(|mark| mark.depth == depth)
     }
 
     /// False where refusal 9 applies: "W below Z + 36 or over 65,535".

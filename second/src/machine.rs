@@ -47,7 +47,7 @@ impl Machine {
     /// S ≤ H, H + 24 ≤ W, P + 8 ≤ W, and zeros above its depth." The map is
     /// one that fits, the store one that is accepted.
     pub fn is_machine(&self, program: &Program, map: &[u8], words: usize) -> bool {
-        program.mark(map, usize::from(self.module), self.pc) == Some(self.depth)
+        program.is_marked(map, usize::from(self.module), self.pc, self.depth)
             && self.s <= self.h
             && usize::from(self.h) + usize::from(Machine::MARGIN) <= words
             && usize::from(self.p) + Machine::RECORD <= words

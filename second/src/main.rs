@@ -14,10 +14,11 @@ A second interpreter of M-code.
 usage: second reading [FILE]
            print the desk's reading of an image, from FILE or standard input
        second map FILE
-           print load's number and, if it accepts, the map in hex
+           print load's number and, if it accepts, the map in hex: a byte is
+           depth + 17 * results, or FF where unmarked
        second coverage [--small] [--seed N] [--cases N]
            replay generated cases and print what they reach; exit 1 if an
-           opcode, a stop or a refusal is missing
+           opcode, a stop, a refusal or a kind of A.2 is missing
        second coverage CASES
            the same for the cases of a file
        second cases [--small] [--seed N] [--count N] OUT

@@ -6,8 +6,7 @@ use native.Mathlib.Omega.{arith}
 use lib.ListN.{length}
 use lib.Seq.{ext-getD}
 use Rattle.mcode.specs.Step.{written}
-use Rattle.mcode.proofs.Zeros.{length-written}
-use Rattle.engine.proofs.Numbers.{written-in}
+use Rattle.mcode.proofs.Zeros.{length-written, written-in}
 
 pub overwritten : (vs ws : List ℕ) → length vs ≡ length ws → written vs 0 ws ≡ vs
 overwritten vs ws e =

@@ -3,7 +3,9 @@ use actions::leaf::wide;
 ghost use mathlib.Core.Path.{_≡_};
 ghost use Prim.Native.Nat.{_+_, _*_, _≤_, _<_};
 ghost use lib.ListN.{length, getD};
-ghost use Rattle.mcode.specs.Word.{word};
+ghost use lib.Dec.{eqb};
+ghost use Rattle.mcode.specs.Word.{and, word};
+ghost use Rattle.mcode.specs.Depths.{depthOf, isMark};
 ghost use Rattle.mcode.specs.Image.{entryOf, procCount};
 ghost use Rattle.actions.specs.Table.{moduleIn};
 ghost use Rattle.control.specs.Table.{countIn, firstBased, standsIn, Entered, Mapped};
@@ -46,6 +48,28 @@ fn byte_in(image: &[u8], i: usize) -> u16
     wide(image[i])
 }
 
+// Whether a mark has a depth: it is that depth with 0 to 4 results. The first comparison decides where no results are promised; a remainder
+// would be slower (docs/PERFORMANCE.md).
+fn has_depth(mark: u16, depth: usize) -> bool
+    requires { ⌜ depth ≤ 16 ⌝ }
+    ensures { λ q. ⌜ q ≡ and (isMark mark) (eqb (depthOf mark) depth) ⌝ }
+{
+    let m = mark as usize;
+    if m == depth {
+        return true;
+    }
+    if m == depth + 17 {
+        return true;
+    }
+    if m == depth + 34 {
+        return true;
+    }
+    if m == depth + 51 {
+        return true;
+    }
+    m == depth + 68
+}
+
 // Whether module k is loaded and a position of it is marked with a depth.
 pub fn stands(table: &[u16; 193], map: &[u8], k: usize, at: u16, depth: usize) -> bool
     requires { ⌜ Mapped (now table) (now map) ⌝ }
@@ -59,7 +83,7 @@ pub fn stands(table: &[u16; 193], map: &[u8], k: usize, at: u16, depth: usize) -
         return false;
     }
     let i = number(table, k, 1) as usize + at as usize;
-    byte_in(map, i) as usize == depth
+    has_depth(byte_in(map, i), depth)
 }
 
 fn word_in(image: &[u8], i: usize) -> u16

@@ -3,42 +3,37 @@ use mathlib.Core.Path.{_≡_, refl, sym, ap, ap₂, _∙_}
 use mathlib.Core.Bool.{Bool, true, false, false≢true}
 use mathlib.Core.List.{List}
 use Prim.Native.Nat.{ℕ, zero, suc, _+_, _-_, _≤_, _<_}
+use native.Mathlib.Decide.{ℕ-discrete}
 use native.Mathlib.Nat.{add-zero, zero-add, add-suc, suc-add, le-of-suc-le-suc, not-suc-le-zero}
 use native.Mathlib.Omega.{arith}
 use lib.ListN.{getD, drop}
 use lib.Seq.{getD-drop}
 use lib.Dec.{ltb, leb, eqb}
-use borrow.Author.Tests.{ltb-true, eq-eqb, ne-eqb, le-ltb, lt-ltb}
+use borrow.Author.Tests.{ltb-true, ltb-false, leb-true, eq-eqb, ne-eqb, le-ltb, lt-ltb}
 use Rattle.mcode.specs.declared.Flow.{Flow}
-use Rattle.mcode.specs.declared.Flow.the-variants.{Fault, Ends, To}
+use Rattle.mcode.specs.declared.Flow.the-variants.{Fault, Ends, To, Fork}
 use Rattle.mcode.specs.declared.Module.{Module}
 use Rattle.mcode.specs.declared.Program.{Program}
-use Rattle.mcode.specs.Word.{pick, and, byte}
+use Rattle.mcode.specs.Word.{pick, and, or, byte}
 use Rattle.mcode.specs.Opcode.{lengths, takens, lefts}
 use Rattle.mcode.specs.Image.{codeByte}
-use Rattle.mcode.specs.Depths.{flowAt, onward, jumps, calls, callsIn, namesModule, target}
+use Rattle.mcode.specs.Depths.{depthOf, isMark, passed, permits, depthFlow, carry, flowAt, onward, jumps, calls, callsIn, namesModule, target}
+use Rattle.mcode.proofs.Marks.{is-mark, no-mark, mark-most, depth-passed, passed-real, passed-own, passed-twice, passed-row}
 use Rattle.depths.specs.declared.rules.Row.{Row}
 use Rattle.depths.specs.declared.rules.Row.the-variants.{Unfit, Next}
 use Rattle.depths.specs.Cases.{rowAt, jumping, ending, plain, kindOf, kindsFrom, kinds}
 
--- equal numbers give an equal flow
-cong3 : (f : ℕ → ℕ → ℕ → Flow) {a b c a′ b′ c′ : ℕ} → a ≡ a′ → b ≡ b′ → c ≡ c′ → f a b c ≡ f a′ b′ c′
-cong3 f p q r = rw (p, q, r) refl
-
--- what follows a row, where k says what follows its numbers
+-- what follows a row, where f says what follows its numbers
 abbrev after : (ℕ → ℕ → Flow) → Row → Flow
-after k Unfit = Fault
-after k (Next n e) = k n e
+after f Unfit = Fault
+after f (Next n e) = f n e
 
-five : (a b c d e : Bool) (k : ℕ → ℕ → Flow) (n x : ℕ)
-    → pick a Fault (pick b Fault (pick c Fault (pick d Fault (pick e Fault (k n x)))))
-    ≡ after k (pick a Unfit (pick b Unfit (pick c Unfit (pick d Unfit (pick e Unfit (Next n x))))))
-five true b c d e k n x = refl
-five false true c d e k n x = refl
-five false false true d e k n x = refl
-five false false false true e k n x = refl
-five false false false false true k n x = refl
-five false false false false false k n x = refl
+-- equal marks give an equal flow
+carry-same : {f g : ℕ → ℕ} → ((d : ℕ) → f d ≡ g d) → (x : Flow) → carry f x ≡ carry g x
+carry-same h Fault = refl
+carry-same h Ends = refl
+carry-same h (To q d) = ap (To q) (h d)
+carry-same h (Fork q d r e) = ap₂ (λ (a b : ℕ). Fork q a r b) (h d) (h e)
 
 second : (a b : Bool) → and a b ≡ true → b ≡ true
 second true b h = h
@@ -95,38 +90,61 @@ module _ (image : List ℕ) (program : Program) (m : Module) (p op b c n e : ℕ
         rw (h, j, no-module op (omega (arith, l)), le-ltb op 0o355 (omega (arith, l)), ne-eqb op 0o355 (λ z. omega (arith, l, z)))
         (one-call (leb op 0o360) (λ (i : ℕ). calls image m i n e) b (op - 0o360))
 
--- what a kind k says of the tests
-abbrev by-tests : Bool → Bool → Bool → ℕ
-by-tests j h q = pick j 1 (pick h 3 (pick q 2 4))
+-- only RTN needs more than its row says
+permits-other : (k op : ℕ) → (op ≡ 0o354 → ⊥) → permits k op ≡ true
+unfolding permits
+permits-other k op h = rw (ne-eqb op 0o354 h) refl
+
+permits-on : (k op : ℕ) → ending op ≡ false → permits k op ≡ true
+permits-on k op h = permits-other k op (λ z. false≢true (sym h ∙ ends (eqb op 0o304) (eqb op 0o354) (eq-eqb op 0o354 z)))
+  where
+    ends : (a b : Bool) → b ≡ true → or a b ≡ true
+    ends true b t = refl
+    ends false b t = t
+
+-- what a kind k says of the tests: not listed, a jump, without a successor, plain
+abbrev by-tests : Bool → Bool → Bool → Bool → ℕ
+by-tests u j h q = pick u 5 (pick j 2 (pick h 3 (pick q 1 4)))
 
 module _ (k : ℕ) where
-  of-jump : (j h q : Bool) → k ≡ by-tests j h q → k ≤ 1 → j ≡ true
-  of-jump true h q e l = refl
-  of-jump false true q e l = absurd (omega (arith, e, l))
-  of-jump false false true e l = absurd (omega (arith, e, l))
-  of-jump false false false e l = absurd (omega (arith, e, l))
+  of-plain : (u j h q : Bool) → k ≡ by-tests u j h q → k ≤ 1 → (u ≡ false) × (j ≡ false) × (h ≡ false) × (q ≡ true)
+  of-plain true j h q e l = absurd (omega (arith, e, l))
+  of-plain false true h q e l = absurd (omega (arith, e, l))
+  of-plain false false true q e l = absurd (omega (arith, e, l))
+  of-plain false false false true e l = (refl, refl, refl, refl)
+  of-plain false false false false e l = absurd (omega (arith, e, l))
 
-  of-plain : (j h q : Bool) → k ≡ by-tests j h q → 1 < k → k ≤ 2 → (j ≡ false) × (h ≡ false) × (q ≡ true)
-  of-plain true h q e g l = absurd (omega (arith, e, g))
-  of-plain false true q e g l = absurd (omega (arith, e, l))
-  of-plain false false true e g l = (refl, refl, refl)
-  of-plain false false false e g l = absurd (omega (arith, e, l))
+  of-jump : (u j h q : Bool) → k ≡ by-tests u j h q → 1 < k → k ≤ 2 → (u ≡ false) × (j ≡ true)
+  of-jump true j h q e g l = absurd (omega (arith, e, l))
+  of-jump false true h q e g l = (refl, refl)
+  of-jump false false true q e g l = absurd (omega (arith, e, l))
+  of-jump false false false true e g l = absurd (omega (arith, e, g))
+  of-jump false false false false e g l = absurd (omega (arith, e, l))
 
-  of-last : (j h q : Bool) → k ≡ by-tests j h q → 2 < k → k ≤ 3 → h ≡ true
-  of-last true h q e g l = absurd (omega (arith, e, g))
-  of-last false true q e g l = refl
-  of-last false false true e g l = absurd (omega (arith, e, g))
-  of-last false false false e g l = absurd (omega (arith, e, l))
+  of-last : (u j h q : Bool) → k ≡ by-tests u j h q → 2 < k → k ≤ 3 → (u ≡ false) × (h ≡ true)
+  of-last true j h q e g l = absurd (omega (arith, e, l))
+  of-last false true h q e g l = absurd (omega (arith, e, g))
+  of-last false false true q e g l = (refl, refl)
+  of-last false false false true e g l = absurd (omega (arith, e, g))
+  of-last false false false false e g l = absurd (omega (arith, e, l))
 
-  of-other : (j h q : Bool) → k ≡ by-tests j h q → 3 < k → (j ≡ false) × (h ≡ false) × (q ≡ false)
-  of-other true h q e g = absurd (omega (arith, e, g))
-  of-other false true q e g = absurd (omega (arith, e, g))
-  of-other false false true e g = absurd (omega (arith, e, g))
-  of-other false false false e g = (refl, refl, refl)
+  of-other : (u j h q : Bool) → k ≡ by-tests u j h q → 3 < k → k ≤ 4 → (u ≡ false) × (j ≡ false) × (h ≡ false) × (q ≡ false)
+  of-other true j h q e g l = absurd (omega (arith, e, l))
+  of-other false true h q e g l = absurd (omega (arith, e, g))
+  of-other false false true q e g l = absurd (omega (arith, e, g))
+  of-other false false false true e g l = absurd (omega (arith, e, g))
+  of-other false false false false e g l = (refl, refl, refl, refl)
 
-  pub kind-other : (op : ℕ) → k ≡ kindOf op → 3 < k → (jumping op ≡ false) × (ending op ≡ false) × (plain op ≡ false)
+  of-none : (u j h q : Bool) → k ≡ by-tests u j h q → 4 < k → u ≡ true
+  of-none true j h q e g = refl
+  of-none false true h q e g = absurd (omega (arith, e, g))
+  of-none false false true q e g = absurd (omega (arith, e, g))
+  of-none false false false true e g = absurd (omega (arith, e, g))
+  of-none false false false false e g = absurd (omega (arith, e, g))
+
+  pub kind-other : (op : ℕ) → k ≡ kindOf op → 3 < k → k ≤ 4 → (jumping op ≡ false) × (ending op ≡ false) × (plain op ≡ false)
   unfolding kindOf
-  kind-other op = of-other (jumping op) (ending op) (plain op)
+  kind-other op x g l = let (u, j, h, q) = of-other (eqb (getD lengths op 0) 0) (jumping op) (ending op) (plain op) x g l in (j, h, q)
 
 -- the table has the kind of every opcode
 kind-from : (i n k : ℕ) → k < n → getD (kindsFrom i n) k 0 ≡ kindOf (i + k)
@@ -139,49 +157,168 @@ pub kind-at : (op : ℕ) → op < 256 → getD kinds op 0 ≡ kindOf op
 unfolding kinds
 kind-at op l = kind-from 0 256 op l ∙ ap kindOf (zero-add op)
 
--- the cases of a row
-module _ (image : List ℕ) (program : Program) (m : Module) (p d : ℕ) where
-  flow-row : flowAt image program m p d ≡ after (onward image program m p (codeByte image m p) (codeByte image m (p + 1)) (codeByte image m (p + 2))) (rowAt (codeByte image m p) p d (m .length))
-  unfolding flowAt rowAt
-  flow-row =
+-- what a row says of the marks before and after it
+row-inverse : (a b c : Bool) (n x n′ x′ : ℕ) → pick a Unfit (pick b Unfit (pick c Unfit (Next n x))) ≡ Next n′ x′ → (b ≡ false) × (c ≡ false) × (x ≡ x′)
+row-inverse true b c n x n′ x′ q = absurd (let z : _≡_ {A = ℕ} 0 1 = cc in let y : ⊥ = omega arith in y)
+row-inverse false true c n x n′ x′ q = absurd (let z : _≡_ {A = ℕ} 0 1 = cc in let y : ⊥ = omega arith in y)
+row-inverse false false true n x n′ x′ q = absurd (let z : _≡_ {A = ℕ} 0 1 = cc in let y : ⊥ = omega arith in y)
+row-inverse false false false n x n′ x′ q = (refl, refl, cc)
+
+module _ (op p k size n e : ℕ) (q : rowAt op p k size ≡ Next n e) where
+  abbrev deep : ℕ
+  deep = depthOf k - getD takens op 0 + getD lefts op 0
+
+  row-says : (getD takens op 0 ≤ depthOf k) × (deep ≤ 16) × (passed k deep ≡ e)
+  unfolding rowAt
+  row-says =
+      let (a, b, c) = row-inverse (ltb size (p + getD lengths op 0)) (ltb (depthOf k) (getD takens op 0)) (ltb 16 deep) (p + getD lengths op 0) (passed k deep) n e q in
+      (ltb-false (depthOf k) (getD takens op 0) a, ltb-false 16 deep b, c)
+
+  -- it leaves a mark
+  pub row-real : k ≤ 84 → e ≤ 84
+  row-real l = let (a, b, c) = row-says in mark-most e (ap isMark (sym c) ∙ passed-real k deep (is-mark k l) b)
+
+  -- with the same results
+  pub row-floor : passed e 0 ≡ passed k 0
+  row-floor = let (a, b, c) = row-says in ap (λ (x : ℕ). passed x 0) (sym c) ∙ passed-twice k deep 0 b
+
+  row-of : (o : ℕ) → op ≡ o → (x y : ℕ) → getD takens o 0 ≡ x → getD lefts o 0 ≡ y → (x ≤ depthOf k) × (depthOf k - x + y ≤ 16) × (passed k (depthOf k - x + y) ≡ e)
+  row-of o h x y t u =
+      let t′ : getD takens op 0 ≡ x = ap (λ (i : ℕ). getD takens i 0) h ∙ t in
+      let u′ : getD lefts op 0 ≡ y = ap (λ (i : ℕ). getD lefts i 0) h ∙ u in
+      rw (t′, u′) at row-says
+
+  -- 036 and 037 leave at least 1
+  pub row-some : jumping op ≡ true → 0o36 ≤ op → 1 ≤ depthOf e
+  unfolding takens lefts
+  row-some j l = go (ℕ-discrete op 0o36)
+    where
+      at : (x : ℕ) → (1 ≤ depthOf k) × (depthOf k - 1 + 1 ≤ 16) × (passed k (depthOf k - 1 + 1) ≡ x) → 1 ≤ depthOf x
+      at x (a, b, c) = let d : depthOf x ≡ depthOf k - 1 + 1 = ap depthOf (sym c) ∙ depth-passed k (depthOf k - 1 + 1) b in omega arith
+
+      go : Dec (op ≡ 0o36) → 1 ≤ depthOf e
+      go (yes h) = at e (row-of 0o36 h 1 1 refl refl)
+      go (no h) = at e (row-of 0o37 (let k = ltb-true op 0o40 (second (leb 0o30 op) (ltb op 0o40) j) in omega arith) 1 1 refl refl)
+
+  -- RTN leaves its own mark, so that the one after the row tells whether it is permitted
+  pub permits-row : permits e op ≡ permits k op
+  unfolding takens lefts
+  permits-row = go (ℕ-discrete op 0o354)
+    where
+      go : Dec (op ≡ 0o354) → permits e op ≡ permits k op
+      go (yes h) =
+          let (a, b, c) = row-of 0o354 h 0 0 refl refl in
+          let z : depthOf k - 0 + 0 ≡ depthOf k = omega arith in
+          ap (λ (x : ℕ). permits x op) (sym c ∙ ap (passed k) z ∙ passed-own k)
+      go (no h) = permits-other e op h ∙ sym (permits-other k op h)
+
+-- a jump to marks is a jump to their depths, since 036 and 037 leave at least 1
+carry-jumps : (op t n e : ℕ) → (0o36 ≤ op → 1 ≤ depthOf e) → carry (passed e) (jumps op t n (depthOf e)) ≡ jumps op t n e
+unfolding jumps
+carry-jumps op t n e h = go (leb 0o36 op) refl (or (eqb op 0o31) (or (eqb op 0o33) (eqb op 0o35)))
+  where
+    go : (u : Bool) → leb 0o36 op ≡ u → (v : Bool)
+        → carry (passed e) (pick u (Fork t (depthOf e) n (depthOf e - 1)) (pick v (To t (depthOf e)) (Fork t (depthOf e) n (depthOf e)))) ≡ pick u (Fork t e n (e - 1)) (pick v (To t e) (Fork t e n e))
+    go true q v =
+        let less : passed e (depthOf e - 1) ≡ e - 1 = ap (passed e) (omega arith) ∙ passed-row e 1 0 (h (leb-true 0o36 op q)) ∙ omega arith in
+        ap₂ (λ (x y : ℕ). Fork t x n y) (passed-own e) less
+    go false q true = ap (To t) (passed-own e)
+    go false q false = ap (λ (x : ℕ). Fork t x n x) (passed-own e)
+
+-- the cases of a row, at a position with the mark k
+module _ (image : List ℕ) (program : Program) (m : Module) (p k : ℕ) where
+  abbrev ahead : ℕ → ℕ → ℕ → Flow
+  ahead op n e = carry (passed e) (onward image program m p op (codeByte image m (p + 1)) (codeByte image m (p + 2)) n (depthOf e))
+
+  carried : carry (passed k) (depthFlow image program m p (depthOf k)) ≡ pick (eqb (getD lengths (codeByte image m p) 0) 0) Fault (after (ahead (codeByte image m p)) (rowAt (codeByte image m p) p k (m .length)))
+  unfolding depthFlow rowAt
+  carried =
       let op = codeByte image m p in
       let size = getD lengths op 0 in
       let taken = getD takens op 0 in
-      let e = d - taken + getD lefts op 0 in
-      five (ltb 16 d) (eqb size 0) (ltb (m .length) (p + size)) (ltb d taken) (ltb 16 e) (onward image program m p op (codeByte image m (p + 1)) (codeByte image m (p + 2))) (p + size) e
+      let e = depthOf k - taken + getD lefts op 0 in
+      by (eqb size 0) (ltb (m .length) (p + size)) (ltb (depthOf k) taken) (ltb 16 e) op (p + size) e (λ t. ltb-false 16 e t)
+    where
+      by : (a b c d : Bool) (op n e : ℕ) → (d ≡ false → e ≤ 16)
+          → carry (passed k) (pick a Fault (pick b Fault (pick c Fault (pick d Fault (onward image program m p op (codeByte image m (p + 1)) (codeByte image m (p + 2)) n e)))))
+          ≡ pick a Fault (after (ahead op) (pick b Unfit (pick c Unfit (pick d Unfit (Next n (passed k e))))))
+      by true b c d op n e l = refl
+      by false true c d op n e l = refl
+      by false false true d op n e l = refl
+      by false false false true op n e l = refl
+      by false false false false op n e l =
+          rw (depth-passed k e (l refl)) (sym (carry-same (λ d. passed-twice k e d (l refl)) (onward image program m p op (codeByte image m (p + 1)) (codeByte image m (p + 2)) n e)))
 
-  module _ (op size : ℕ) (o : op ≡ codeByte image m p) (s : size ≡ m .length) where
-    by-row : (r : Row) → rowAt op p d size ≡ r
-        → flowAt image program m p d ≡ after (onward image program m p (codeByte image m p) (codeByte image m (p + 1)) (codeByte image m (p + 2))) r
-    by-row r q =
-        flow-row ∙ ap (after (onward image program m p (codeByte image m p) (codeByte image m (p + 1)) (codeByte image m (p + 2))))
-        (ap₂ (λ (x y : ℕ). rowAt x p d y) (sym o) (sym s) ∙ q)
+  pub flow-unmarked : 84 < k → flowAt image program m p k ≡ Fault
+  unfolding flowAt
+  flow-unmarked l = rw (no-mark k l) refl
 
-    pub flow-unfit : rowAt op p d size ≡ Unfit → flowAt image program m p d ≡ Fault
-    flow-unfit q = by-row Unfit q
+  module _ (real : k ≤ 84) (op size : ℕ) (o : op ≡ codeByte image m p) (s : size ≡ m .length) where
+    abbrev of-row : ℕ → Row → Flow
+    of-row op r = pick (permits k op) (pick (eqb (getD lengths op 0) 0) Fault (after (ahead op) r)) Fault
 
-    module _ (n e : ℕ) (q : rowAt op p d size ≡ Next n e) where
-      pub flow-next : (b c : ℕ) → b ≡ codeByte image m (p + 1) → c ≡ codeByte image m (p + 2)
-          → flowAt image program m p d ≡ onward image program m p op b c n e
-      flow-next b c x y = by-row (Next n e) q ∙ cong3 (λ (t u v : ℕ). onward image program m p t u v n e) (sym o) (sym x) (sym y)
+    by-row : (r : Row) → rowAt op p k size ≡ r → flowAt image program m p k ≡ of-row op r
+    unfolding flowAt
+    by-row r q = rw (is-mark k real, carried) (ap₂ of-row (sym o) (ap₂ (λ (x y : ℕ). rowAt x p k y) (sym o) (sym s) ∙ q))
 
-      module _ (k : ℕ) (x : k ≡ kindOf op) where
-        pub flow-jump : k ≤ 1 → (t b c : ℕ) → t ≡ target op (p + 1) b c → b ≡ codeByte image m (p + 1) → c ≡ codeByte image m (p + 2)
-            → flowAt image program m p d ≡ jumps op t n e
+    none : (t u : Bool) → pick t (pick u Fault Fault) Fault ≡ Fault
+    none true true = refl
+    none true false = refl
+    none false u = refl
+
+    pub flow-unfit : rowAt op p k size ≡ Unfit → flowAt image program m p k ≡ Fault
+    flow-unfit q = by-row Unfit q ∙ none (permits k op) (eqb (getD lengths op 0) 0)
+
+    module _ (n e : ℕ) (q : rowAt op p k size ≡ Next n e) where
+      pub flow-barred : permits e op ≡ false → flowAt image program m p k ≡ Fault
+      flow-barred t = by-row (Next n e) q ∙ rw (sym (permits-row op p k size n e q) ∙ t) refl
+
+      module _ (κ : ℕ) (x : κ ≡ kindOf op) where
+        -- where it is permitted and listed
+        met : permits k op ≡ true → eqb (getD lengths op 0) 0 ≡ false → flowAt image program m p k ≡ ahead op n e
+        met t u = by-row (Next n e) q ∙ rw (t, u) refl
+
+        pub flow-plain : κ ≤ 1 → flowAt image program m p k ≡ To n e
         unfolding kindOf
-        flow-jump l t b c z y w =
-            flow-next b c y w ∙ onward-jump image program m p op b c n e (of-jump k (jumping op) (ending op) (plain op) x l)
-            ∙ ap (λ (u : ℕ). jumps op u n e) (sym z)
+        flow-plain l =
+            let (u, j, h, y) = of-plain κ (eqb (getD lengths op 0) 0) (jumping op) (ending op) (plain op) x l in
+            met (permits-on k op h) u ∙ ap (carry (passed e)) (onward-plain image program m p op _ _ n (depthOf e) j h y) ∙ ap (To n) (passed-own e)
 
-        pub flow-plain : 1 < k → k ≤ 2 → flowAt image program m p d ≡ To n e
+        pub flow-jump : 1 < κ → κ ≤ 2 → (t b c : ℕ) → t ≡ target op (p + 1) b c → b ≡ codeByte image m (p + 1) → c ≡ codeByte image m (p + 2)
+            → flowAt image program m p k ≡ jumps op t n e
         unfolding kindOf
-        flow-plain g l =
-            let u = of-plain k (jumping op) (ending op) (plain op) x g l in
-            flow-next _ _ refl refl ∙ onward-plain image program m p op _ _ n e (u .0) (u .1) (u .2)
+        flow-jump g l t b c z y w =
+            let (u, j) = of-jump κ (eqb (getD lengths op 0) 0) (jumping op) (ending op) (plain op) x g l in
+            let near = ltb-true op 0o40 (second (leb 0o30 op) (ltb op 0o40) j) in
+            let t′ : target op (p + 1) (codeByte image m (p + 1)) (codeByte image m (p + 2)) ≡ t = rw (sym y, sym w) (sym z) in
+            met (permits-other k op (λ v. omega (arith, near, v))) u
+            ∙ ap (carry (passed e)) (onward-jump image program m p op _ _ n (depthOf e) j ∙ ap (λ (v : ℕ). jumps op v n (depthOf e)) t′)
+            ∙ carry-jumps op t n e (row-some op p k size n e q j)
 
-        pub flow-ends : 2 < k → k ≤ 3 → flowAt image program m p d ≡ Ends
+        pub flow-ends : 2 < κ → κ ≤ 3 → permits e op ≡ true → flowAt image program m p k ≡ Ends
         unfolding kindOf
-        flow-ends g l = flow-next _ _ refl refl ∙ onward-ends image program m p op _ _ n e (of-last k (jumping op) (ending op) (plain op) x g l)
+        flow-ends g l t =
+            let (u, h) = of-last κ (eqb (getD lengths op 0) 0) (jumping op) (ending op) (plain op) x g l in
+            met (sym (permits-row op p k size n e q) ∙ t) u ∙ ap (carry (passed e)) (onward-ends image program m p op _ _ n (depthOf e) h)
+
+        -- what a test of the flow that Ends passes and Fault fails says of RTN and TRAP
+        pub last-passes : (test : Flow → Bool) → test Ends ≡ true → test Fault ≡ false → 2 < κ → κ ≤ 3 → permits e op ≡ test (flowAt image program m p k)
+        last-passes test ends faults g l = go (permits e op) refl
+          where
+            go : (t : Bool) → permits e op ≡ t → t ≡ test (flowAt image program m p k)
+            go true h = sym (ap test (flow-ends g l h) ∙ ends)
+            go false h = sym (ap test (flow-barred h) ∙ faults)
+
+        pub flow-unlisted : 4 < κ → flowAt image program m p k ≡ Fault
+        unfolding kindOf
+        flow-unlisted g = by-row (Next n e) q ∙ rw (of-none κ (eqb (getD lengths op 0) 0) (jumping op) (ending op) (plain op) x g) (none (permits k op) true)
+
+        pub flow-next : 3 < κ → κ ≤ 4 → (b c : ℕ) → b ≡ codeByte image m (p + 1) → c ≡ codeByte image m (p + 2)
+            → flowAt image program m p k ≡ carry (passed e) (onward image program m p op b c n (depthOf e))
+        unfolding kindOf
+        flow-next g l b c y w =
+            let (u, j, h, v) = of-other κ (eqb (getD lengths op 0) 0) (jumping op) (ending op) (plain op) x g l in
+            met (permits-on k op h) u ∙ ap₂ (λ (s t : ℕ). carry (passed e) (onward image program m p op s t n (depthOf e))) (sym y) (sym w)
 
 -- the image from a on has its bytes
 pub code-byte : (image code : List ℕ) (a i k : ℕ) → code ≡ drop a image → a + i ≡ k → byte code i ≡ byte image k

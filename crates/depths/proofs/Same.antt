@@ -14,8 +14,8 @@ use Rattle.mcode.specs.declared.Flow.the-variants.{Fault}
 use Rattle.mcode.specs.declared.Module.{Module}
 use Rattle.mcode.specs.declared.Program.{Program}
 use Rattle.mcode.specs.Word.{pick}
-use Rattle.mcode.specs.Image.{moduleOf}
-use Rattle.mcode.specs.Depths.{depths, flowAt, onward, calls, callsIn}
+use Rattle.mcode.specs.Image.{moduleOf, codeByte}
+use Rattle.mcode.specs.Depths.{depthOf, isMark, passed, permits, depths, depthFlow, carry, flowAt, onward, calls, callsIn}
 use Rattle.mcode.specs.Layout.{Told}
 use Rattle.depths.specs.Lent.{light, lightOf, depthsOf, Copied, Placed}
 use Rattle.depths.proofs.Marks.{light-at}
@@ -41,9 +41,13 @@ module _ (image : List ℕ) (program : Program) (procs tables : List ℕ) (C : C
       ap (λ (m : Module). calls image m i n e) (light-at procs tables k (C .long ∙ sym (C .wide)))
       ∙ calls-same (light (getD procs k 0) (getD tables k 0)) (moduleOf program k) i n e (C .procs-are k l) (C .tables-are k l))
 
-  flow-same : (m : Module) (p d : ℕ) → flowAt image lit m p d ≡ flowAt image program m p d
-  unfolding flowAt onward
-  flow-same m p d = simp calls-in-same
+  depth-same : (m : Module) (p d : ℕ) → depthFlow image lit m p d ≡ depthFlow image program m p d
+  unfolding depthFlow onward
+  depth-same m p d = simp calls-in-same
+
+  flow-same : (m : Module) (p k : ℕ) → flowAt image lit m p k ≡ flowAt image program m p k
+  unfolding flowAt
+  flow-same m p k = ap (λ (f : Flow). pick (isMark k) (pick (permits k (codeByte image m p)) (carry (passed k) f) Fault) Fault) (depth-same m p (depthOf k))
 
   pub depths-same : (m : Module) → depthsOf image (program .count) procs tables m ≡ depths image program m
   depths-same m =

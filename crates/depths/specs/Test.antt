@@ -5,8 +5,8 @@ use mathlib.Core.List.{List}
 use lib.ListN.{getD}
 use lib.Dec.{ltb, eqb}
 use Rattle.mcode.specs.Word.{or, allBelow, byte}
-use Rattle.mcode.specs.Image.{procCount, entryOf, paramsOf}
-use Rattle.mcode.specs.Depths.{Analysis, mark, followed}
+use Rattle.mcode.specs.Image.{procCount, entryOf, paramsOf, resultsOf}
+use Rattle.mcode.specs.Depths.{Analysis, markOf, mark, followed}
 use Rattle.mcode.specs.declared.Module.{Module}
 use Rattle.mcode.specs.declared.Flow.{Flow}
 use Rattle.mcode.specs.declared.Flow.the-variants.{Fault}
@@ -15,9 +15,9 @@ use Rattle.mcode.specs.declared.Flow.the-variants.{Fault}
 abbrev pub followedIn : List ℕ → Flow → Bool
 followedIn map f = followed (record { size = 0; none = 255; entries = 0; entryAt = λ i. i; entryMark = λ i. i; flow = λ p d. Fault }) map f
 
--- "every entry with its parameter count": procedure i
+-- "every entry with its parameter count", "an entry has its procedure's" result count: procedure i
 abbrev pub entryFits : List ℕ → Module → List ℕ → ℕ → Bool
-entryFits image m map i = eqb (getD map (entryOf image m i) 255) (paramsOf image m i)
+entryFits image m map i = eqb (getD map (entryOf image m i) 255) (markOf (paramsOf image m i) (resultsOf image m i))
 
 -- position p is unmarked, or follows the rules
 abbrev pub markFits : Analysis → List ℕ → ℕ → Bool

@@ -1,18 +1,22 @@
 // The test of a map that anybody lends: refusal 12. Marks beyond the fewest are allowed.
 use crate::kinds::JUMP;
 use crate::kinds::LAST;
+use crate::kinds::NAMES;
 use crate::kinds::PLAIN;
 use crate::records::records_of;
 use crate::rules::Row;
 use crate::rules::byte_at;
+use crate::rules::entry_mark;
 use crate::rules::entry_of;
+use crate::rules::floor_of;
 use crate::rules::jump;
 use crate::rules::kind_of;
 use crate::rules::onward_at;
-use crate::rules::params_of;
+use crate::rules::permitted;
 use crate::rules::proc_count;
 use crate::rules::row_at;
 use crate::rules::target_at;
+use crate::rules::wide;
 use mcode::Flow;
 use mcode::Module;
 use mcode::Program;
@@ -20,9 +24,9 @@ ghost use mathlib.Core.Path.{_≡_};
 ghost use Prim.Native.Nat.{_≤_, _<_};
 ghost use lib.ListN.{length, getD, drop};
 ghost use lib.Dec.{eqb};
-ghost use Rattle.mcode.specs.Depths.{fits, flowAt, mapFits};
-ghost use Rattle.mcode.specs.Layout.{Told};
-ghost use Rattle.depths.specs.Lent.{lightOf, depthsOf, Ready};
+ghost use Rattle.mcode.specs.Depths.{depthOf, passed, fits, flowAt, mapFits};
+ghost use Rattle.mcode.specs.Layout.{Sound, Told};
+ghost use Rattle.depths.specs.Lent.{lightOf, depthsOf, Placed, Ready};
 ghost use Rattle.depths.specs.Test as test;
 
 // Whether position q has the mark d; one outside is unmarked.
@@ -52,16 +56,16 @@ fn follows(map: &[u8], f: Flow) -> bool
     }
 }
 
-// Whether each entry has its parameter count.
+// Whether each entry has its mark.
 fn entries_fit(image: &[u8], map: &[u8], m: Module) -> bool
-    requires { ⌜ m .table ≤ 65535 ⌝ }
+    requires { ⌜ Sound (now image) m ⌝ }
     ensures { λ r. ⌜ r ≡ test.entriesFit (now (image .entry)) m (now (map .entry)) ⌝ }
 {
     let n = proc_count(m);
     let mut i: usize = 0;
     while i < n {
         let q = entry_of(image, m, i);
-        let d = params_of(image, m, i);
+        let d = entry_mark(image, m, i);
         let ok = has_mark(map, q, d);
         if !ok {
             return false;
@@ -71,14 +75,26 @@ fn entries_fit(image: &[u8], map: &[u8], m: Module) -> bool
     true
 }
 
-// Whether position p, of mark d, follows the rules. `code` is the image from the module's code on. It goes the way of `flow_at`, but
-// looks at the marks at once, so that either has one caller and is compiled in line.
+// The mark at depth 0 with the results of a mark, which are most often those of the position before: no remainder is taken then.
+fn floor_after(floor: u8, mark: u8) -> u8
+    requires { ⌜ (floor ≤ 84) × (depthOf floor ≡ 0) ⌝ }
+    ensures { λ r. ⌜ r ≡ passed mark 0 ⌝ }
+{
+    if std::num::wrapping_sub_u8(mark, floor) <= 16 {
+        return floor;
+    }
+    floor_of(mark)
+}
+
+// Whether position p, with this mark and `floor` the one with its results at depth 0, follows the rules. `code` is the image from the
+// module's code on. It goes the way of `flow_at`, but looks at the marks at once, so that either has one caller and is compiled in line.
 fn position_fits(
     image: &[u8],
     code: &[u8],
     map: &[u8],
     p: usize,
-    d: u8,
+    mark: u8,
+    floor: u8,
     count: usize,
     procs: &[u16; 32],
     tables: &[usize; 32],
@@ -89,29 +105,42 @@ fn position_fits(
     kinds: &[u8; 256],
 ) -> bool
     requires { ⌜ (p < m .length) × (length (now map) ≡ m .length) × (now code ≡ drop (m .code) (now image)) ⌝ }
+    requires { ⌜ (mark ≤ 84) × (floor ≡ passed mark 0) ⌝ }
     requires { ⌜ Ready (now image) count (now procs) (now tables) m (now sizes) (now takes) (now leaves) (now kinds) ⌝ }
-    ensures { λ r. ⌜ r ≡ test.followedIn (now (map .entry)) (flowAt (now (image .entry)) (lightOf count (now (procs .entry)) (now (tables .entry))) m p d) ⌝ }
+    ensures { λ r. ⌜ r ≡ test.followedIn (now (map .entry)) (flowAt (now (image .entry)) (lightOf count (now (procs .entry)) (now (tables .entry))) m p mark) ⌝ }
 {
     let op = code[p];
-    let row = row_at(op, p, d, map.len(), sizes, takes, leaves);
+    let row = row_at(
+        op,
+        p,
+        mark,
+        wide(mark - floor),
+        map.len(),
+        sizes,
+        takes,
+        leaves,
+    );
     match row {
         Row::Unfit => false,
         Row::Next(n, e) => {
             let kind = kind_of(kinds, op);
+            if kind <= PLAIN {
+                return has_mark(map, n, e);
+            }
             if kind <= JUMP {
                 let t = target_at(code, p + 1, op, p + 1);
                 let f = jump(op, t, n, e);
                 return follows(map, f);
             }
-            if kind <= PLAIN {
-                return has_mark(map, n, e);
-            }
             if kind <= LAST {
-                return true;
+                return permitted(e, op);
+            }
+            if NAMES < kind {
+                return false;
             }
             let b = byte_at(code, p + 1);
             let c = byte_at(code, p + 2);
-            let f = onward_at(image, op, b, c, n, e, count, procs, tables, m);
+            let f = onward_at(image, op, b, c, n, e, floor, count, procs, tables, m);
             follows(map, f)
         }
     }
@@ -135,16 +164,19 @@ fn marks_fit(
     requires { ⌜ (length (now map) ≡ m .length) × (now code ≡ drop (m .code) (now image)) ⌝ }
     ensures { λ r. ⌜ r ≡ test.marksFit (depthsOf (now (image .entry)) count (now (procs .entry)) (now (tables .entry)) m) (now (map .entry)) ⌝ }
 {
+    let mut floor: u8 = 0;
     let mut p: usize = 0;
     while p < map.len() {
-        let d = map[p];
-        if d != 255 {
+        let mark = map[p];
+        if mark <= 84 {
+            floor = floor_after(floor, mark);
             let ok = position_fits(
                 image,
                 code,
                 map,
                 p,
-                d,
+                mark,
+                floor,
                 count,
                 procs,
                 tables,
@@ -157,13 +189,16 @@ fn marks_fit(
             if !ok {
                 return false;
             }
+        } else if mark != 255 {
+            return false;
         }
         p += 1;
     }
     true
 }
 
-// Whether module m's part of the map fits.
+// Whether module m's part of the map fits. It has its own copies of the tables, and two callers: so it is compiled as a function, with the
+// tables in its frame and registers of its own.
 fn part_fits(
     image: &[u8],
     map: &[u8],
@@ -171,16 +206,16 @@ fn part_fits(
     procs: &[u16; 32],
     tables: &[usize; 32],
     m: Module,
-    sizes: &[u8; 256],
-    takes: &[u8; 256],
-    leaves: &[u8; 256],
-    kinds: &[u8; 256],
 ) -> bool
-    requires { ⌜ Ready (now image) count (now procs) (now tables) m (now sizes) (now takes) (now leaves) (now kinds) ⌝ }
+    requires { ⌜ Sound (now image) m × Placed (now image) count (now procs) (now tables) ⌝ }
     requires { ⌜ length (now map) ≡ m .length ⌝ }
     ensures { λ r. ⌜ r ≡ fits (depthsOf (now (image .entry)) count (now (procs .entry)) (now (tables .entry)) m) (now (map .entry)) ⌝ }
 {
     if entries_fit(image, map, m) {
+        let sizes = mcode::opcode::LENGTH;
+        let takes = mcode::opcode::TAKEN;
+        let leaves = mcode::opcode::LEFT;
+        let kinds = crate::kinds::KIND;
         let a = m.code;
         let code = &image[a..image.len()];
         return marks_fit(
@@ -191,10 +226,10 @@ fn part_fits(
             procs,
             tables,
             m,
-            sizes,
-            takes,
-            leaves,
-            kinds,
+            &sizes,
+            &takes,
+            &leaves,
+            &kinds,
         );
     }
     false
@@ -221,37 +256,28 @@ pub fn map_fits(image: &[u8], program: Program, map: &[u8]) -> bool
     requires { ⌜ length (now image) ≤ length (now map) ⌝ }
     ensures { λ r. ⌜ r ≡ mapFits (now (image .entry)) program (now (map .entry)) ⌝ }
 {
-    let sizes = mcode::opcode::LENGTH;
-    let takes = mcode::opcode::TAKEN;
-    let leaves = mcode::opcode::LEFT;
-    let kinds = crate::kinds::KIND;
     let records = records_of(program);
     let procs = records.procs;
     let tables = records.tables;
     let n = program.count;
-    let mut at: usize = 0;
-    let mut k: usize = 0;
+    let first = program.modules[0];
+    let start = first.code;
+    let mut at = start + first.length as usize;
+    if !unmarked(map, 0, start) {
+        return false;
+    }
+    if !part_fits(image, &map[start..at], n, &procs, &tables, first) {
+        return false;
+    }
+    let mut k: usize = 1;
     while k < n {
         let m = program.modules[k];
         let a = m.code;
         let e = a + m.length as usize;
-        let gap = unmarked(map, at, a);
-        if !gap {
+        if !unmarked(map, at, a) {
             return false;
         }
-        let ok = part_fits(
-            image,
-            &map[a..e],
-            n,
-            &procs,
-            &tables,
-            m,
-            &sizes,
-            &takes,
-            &leaves,
-            &kinds,
-        );
-        if !ok {
+        if !part_fits(image, &map[a..e], n, &procs, &tables, m) {
             return false;
         }
         at = e;

@@ -61,7 +61,7 @@ fn head(map: &[u8], work: &[u16], h: usize, t: usize) -> Turn
     Turn::Next(t, 0, 0)
 }
 
-// Takes the position p at h, of depth d, from the queue and visits its successors. Where no other position waits, as in straight
+// Takes the position p at h, of mark d, from the queue and visits its successors. Where no other position waits, as in straight
 // code, the turn of its only successor comes without a read of what was just written.
 fn expand(
     image: &[u8],
@@ -129,7 +129,7 @@ fn expand(
     }
 }
 
-// Visits the entry of each procedure with its parameter count. (The records name the analysis in the contract.)
+// Visits the entry of each procedure with its mark. (The records name the analysis in the contract.)
 fn enter(
     image: &[u8],
     map: &mut [u8],
@@ -150,7 +150,7 @@ fn enter(
     let mut i: usize = 0;
     while i < n {
         let q = rules::entry_of(image, m, i);
-        let d = rules::params_of(image, m, i);
+        let d = rules::entry_mark(image, m, i);
         let v = enqueue(map, work, t, q, d);
         match v {
             Visit::Clash => {

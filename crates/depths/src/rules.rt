@@ -1,6 +1,7 @@
-// What follows an instruction at a depth: the rules of the paper, as mcode's specs/Depths.antt has them.
+// What follows an instruction with a mark: the rules of the paper, as mcode's specs/Depths.antt has them.
 use crate::kinds::JUMP;
 use crate::kinds::LAST;
+use crate::kinds::NAMES;
 use crate::kinds::PLAIN;
 use mcode::Flow;
 use mcode::Module;
@@ -12,7 +13,8 @@ ghost use lib.Dec.{leb};
 ghost use Rattle.mcode.specs.Word.{pick, byte};
 ghost use Rattle.mcode.specs.Opcode.{lengths, takens, lefts};
 ghost use Rattle.mcode.specs.Image.{moduleOf, procCount, entryOf, paramsOf, resultsOf};
-ghost use Rattle.mcode.specs.Depths.{target, jumps, calls, callsIn, namesModule, onward, flowAt};
+ghost use Rattle.mcode.specs.Depths.{markOf, depthOf, promised, passed, permits, carry, target, jumps, calls, callsIn, namesModule, onward, flowAt};
+ghost use Rattle.mcode.specs.Layout.{Sound};
 ghost use Rattle.depths.specs.Cases.{rowAt, jumping, ending, plain, kindOf, kinds};
 ghost use Rattle.depths.specs.Lent.{lightOf, Placed, Ready};
 
@@ -106,6 +108,45 @@ fn results_of(image: &[u8], m: Module, i: usize) -> u8
     byte_at(image, m.table + 4 * i + 3)
 }
 
+// The mark of procedure i's entry: its parameters and its results.
+pub fn entry_mark(image: &[u8], m: Module, i: usize) -> u8
+    requires { ⌜ (i < 65536) × (m .table ≤ 65535) ⌝ }
+    requires { ⌜ (paramsOf (now image) m i ≤ 16) × (resultsOf (now image) m i ≤ 4) ⌝ }
+    ensures { λ r. ⌜ r ≡ markOf (paramsOf (now (image .entry)) m i) (resultsOf (now (image .entry)) m i) ⌝ }
+{
+    params_of(image, m, i) + 17 * results_of(image, m, i)
+}
+
+// The depth and the results of a mark.
+pub fn depth_of(k: u8) -> u8
+    ensures { λ r. ⌜ r ≡ depthOf k ⌝ }
+{
+    k % 17
+}
+
+pub fn promised_of(k: u8) -> u8
+    ensures { λ r. ⌜ r ≡ promised k ⌝ }
+{
+    k / 17
+}
+
+// The mark with the results of k at depth 0.
+pub fn floor_of(k: u8) -> u8
+    ensures { λ r. ⌜ (r ≡ passed k 0) × (r + depthOf k ≡ k) ⌝ }
+{
+    k - k % 17
+}
+
+// Whether the mark k permits op: "RTN needs a depth equal to" the results.
+pub fn permitted(k: u8, op: u8) -> bool
+    ensures { λ r. ⌜ r ≡ permits k op ⌝ }
+{
+    if op == 0o354 {
+        return depth_of(k) == promised_of(k);
+    }
+    true
+}
+
 // The target of the jump op whose operand begins at position s, which is `at` in the lent bytes. One below 0 wraps to 32,768 or more,
 // outside of any code.
 pub fn target_at(code: &[u8], at: usize, op: u8, s: usize) -> usize
@@ -126,7 +167,7 @@ pub fn target_at(code: &[u8], at: usize, op: u8, s: usize) -> usize
     (s + wide(b)) % 65536
 }
 
-// The depth of 036 and 037 where they do not jump: one less than their row says.
+// The mark of 036 and 037 where they do not jump: one less than their row says.
 fn less_one(e: u8) -> u8
     ensures { λ r. ⌜ r ≡ e - 1 ⌝ }
 {
@@ -136,7 +177,7 @@ fn less_one(e: u8) -> u8
     e - 1
 }
 
-// After the jump op to t, with the next instruction at n and the depth e that its row says.
+// After the jump op to t, with the next instruction at n and the mark e that its row leaves.
 pub fn jump(op: u8, t: usize, n: usize, e: u8) -> Flow
     ensures { λ r. ⌜ r ≡ jumps op t n e ⌝ }
 {
@@ -155,14 +196,16 @@ pub fn jump(op: u8, t: usize, n: usize, e: u8) -> Flow
     Flow::Fork(t, e, n, e)
 }
 
-// A call of procedure i of module m: the depth is its parameters, and the next position has its results.
-fn call(image: &[u8], m: Module, i: usize, n: usize, e: u8) -> Flow
+// A call of procedure i of module m, where its row leaves the mark e, with `floor` the one at depth 0: the depth is the procedure's
+// parameters, and the next position has its results as the depth.
+fn call(image: &[u8], m: Module, i: usize, n: usize, e: u8, floor: u8) -> Flow
     requires { ⌜ (i < 65536) × (m .table ≤ 65535) ⌝ }
-    ensures { λ r. ⌜ r ≡ calls (now (image .entry)) m i n e ⌝ }
+    requires { ⌜ (e ≤ 84) × (floor ≡ passed e 0) × ((i < procCount m) → resultsOf (now image) m i ≤ 4) ⌝ }
+    ensures { λ r. ⌜ r ≡ carry (passed e) (calls (now (image .entry)) m i n (depthOf e)) ⌝ }
 {
     if i < proc_count(m) {
-        if e == params_of(image, m, i) {
-            return Flow::To(n, results_of(image, m, i));
+        if e - floor == params_of(image, m, i) {
+            return Flow::To(n, floor + results_of(image, m, i));
         }
         return Flow::Fault;
     }
@@ -176,13 +219,14 @@ fn call_in(
     i: usize,
     n: usize,
     e: u8,
+    floor: u8,
     count: usize,
     procs: &[u16; 32],
     tables: &[usize; 32],
 ) -> Flow
-    requires { ⌜ i < 65536 ⌝ }
+    requires { ⌜ (i < 65536) × (e ≤ 84) × (floor ≡ passed e 0) ⌝ }
     requires { ⌜ Placed (now image) count (now procs) (now tables) ⌝ }
-    ensures { λ r. ⌜ r ≡ callsIn (now (image .entry)) (lightOf count (now (procs .entry)) (now (tables .entry))) k i n e ⌝ }
+    ensures { λ r. ⌜ r ≡ carry (passed e) (callsIn (now (image .entry)) (lightOf count (now (procs .entry)) (now (tables .entry))) k i n (depthOf e)) ⌝ }
 {
     if k < count {
         let m = Module {
@@ -193,7 +237,7 @@ fn call_in(
             procs: procs[k],
             table: tables[k],
         };
-        return call(image, m, i, n, e);
+        return call(image, m, i, n, e, floor);
     }
     Flow::Fault
 }
@@ -243,7 +287,7 @@ fn callee_of(op: u8, b: u8) -> usize
     wide(op) - 0o360
 }
 
-// After any other listed instruction op, whose operand bytes are b and c, with the next one at n and the depth e that its row says.
+// After any other listed instruction op, whose operand bytes are b and c, with the next one at n and the mark e that its row leaves.
 // Only a jump depends on its position p. This is small enough to be compiled in line in both callers.
 pub fn onward_at(
     image: &[u8],
@@ -252,15 +296,16 @@ pub fn onward_at(
     c: u8,
     n: usize,
     e: u8,
+    floor: u8,
     count: usize,
     procs: &[u16; 32],
     tables: &[usize; 32],
     m: Module,
 ) -> Flow
     requires { ⌜ (jumping op ≡ false) × (ending op ≡ false) × (plain op ≡ false) ⌝ }
-    requires { ⌜ m .table ≤ 65535 ⌝ }
+    requires { ⌜ (e ≤ 84) × (floor ≡ passed e 0) × Sound (now image) m ⌝ }
     requires { ⌜ Placed (now image) count (now procs) (now tables) ⌝ }
-    ensures { λ r. ⌜ ((p : ℕ) → r ≡ onward (now (image .entry)) (lightOf count (now (procs .entry)) (now (tables .entry))) m p op b c n e) ⌝ }
+    ensures { λ r. ⌜ ((p : ℕ) → r ≡ carry (passed e) (onward (now (image .entry)) (lightOf count (now (procs .entry)) (now (tables .entry))) m p op b c n (depthOf e))) ⌝ }
 {
     if op < 0o355 {
         if wide(b) < count {
@@ -269,60 +314,53 @@ pub fn onward_at(
         return Flow::Fault;
     }
     if op == 0o355 {
-        return call_in(image, wide(b), wide(c), n, e, count, procs, tables);
+        return call_in(image, wide(b), wide(c), n, e, floor, count, procs, tables);
     }
-    call(image, m, callee_of(op, b), n, e)
+    call(image, m, callee_of(op, b), n, e, floor)
 }
 
-// The next position and the depth that an instruction's row says, where its opcode is listed, its operands lie in the code, and both
-// depths are possible.
+// The next position and the mark that an instruction's row leaves, where its operands lie in the code and both depths are possible.
 pub enum Row {
     Unfit,
     Next(usize, u8),
 }
 
-// The row of op at position p of a code of `length` bytes, at depth d.
+// The row of op at position p of a code of `length` bytes, with a mark, whose depth is d. The mark that it leaves is not computed from d,
+// so that nothing waits for a remainder.
 pub fn row_at(
     op: u8,
     p: usize,
-    d: u8,
+    mark: u8,
+    d: usize,
     length: usize,
     sizes: &[u8; 256],
     takes: &[u8; 256],
     leaves: &[u8; 256],
 ) -> Row
-    requires { ⌜ p < 65536 ⌝ }
+    requires { ⌜ (p < 65536) × (mark ≤ 84) × (d ≡ depthOf mark) ⌝ }
     requires { ⌜ (now sizes ≡ lengths) × (now takes ≡ takens) × (now leaves ≡ lefts) ⌝ }
-    ensures { λ r. ⌜ r ≡ rowAt op p d length ⌝ }
+    ensures { λ r. ⌜ r ≡ rowAt op p mark length ⌝ }
 {
-    if 16 < d {
-        return Row::Unfit;
-    }
-    let size = length_of(sizes, op);
+    let n = p + length_of(sizes, op);
     let taken = taken_of(takes, op);
-    let depth = wide(d);
-    if size == 0 {
-        return Row::Unfit;
-    }
-    let n = p + size;
+    let left = left_of(leaves, op);
     if length < n {
         return Row::Unfit;
     }
-    if depth < taken {
+    if d < taken {
         return Row::Unfit;
     }
-    let e = depth - taken + left_of(leaves, op);
-    if 16 < e {
+    if 16 < d - taken + left {
         return Row::Unfit;
     }
-    Row::Next(n, e as u8)
+    Row::Next(n, (wide(mark) - taken + left) as u8)
 }
 
-// What follows position p of module m at depth d. It has one caller, so that it is compiled in line there.
+// What follows position p of module m with a mark. It has one caller, so that it is compiled in line there.
 pub fn flow_at(
     image: &[u8],
     p: usize,
-    d: u8,
+    mark: u8,
     count: usize,
     procs: &[u16; 32],
     tables: &[usize; 32],
@@ -334,27 +372,38 @@ pub fn flow_at(
 ) -> Flow
     requires { ⌜ p < m .length ⌝ }
     requires { ⌜ Ready (now image) count (now procs) (now tables) m (now sizes) (now takes) (now leaves) (now kinds) ⌝ }
-    ensures { λ r. ⌜ r ≡ flowAt (now (image .entry)) (lightOf count (now (procs .entry)) (now (tables .entry))) m p d ⌝ }
+    ensures { λ r. ⌜ r ≡ flowAt (now (image .entry)) (lightOf count (now (procs .entry)) (now (tables .entry))) m p mark ⌝ }
 {
-    let op = byte_at(image, m.code + p);
-    let row = row_at(op, p, d, m.length as usize, sizes, takes, leaves);
+    if 84 < mark {
+        return Flow::Fault;
+    }
+    let op = image[m.code + p];
+    let d = wide(depth_of(mark));
+    let row = row_at(op, p, mark, d, m.length as usize, sizes, takes, leaves);
     match row {
         Row::Unfit => Flow::Fault,
         Row::Next(n, e) => {
             let kind = kind_of(kinds, op);
+            if kind <= PLAIN {
+                return Flow::To(n, e);
+            }
             if kind <= JUMP {
                 let t = target_at(image, m.code + (p + 1), op, p + 1);
                 return jump(op, t, n, e);
             }
-            if kind <= PLAIN {
-                return Flow::To(n, e);
+            if !permitted(e, op) {
+                return Flow::Fault;
             }
             if kind <= LAST {
                 return Flow::Ends;
             }
+            if NAMES < kind {
+                return Flow::Fault;
+            }
             let b = byte_at(image, m.code + (p + 1));
             let c = byte_at(image, m.code + (p + 2));
-            onward_at(image, op, b, c, n, e, count, procs, tables, m)
+            let floor = floor_of(e);
+            onward_at(image, op, b, c, n, e, floor, count, procs, tables, m)
         }
     }
 }

@@ -1,8 +1,8 @@
 -- The flat array holds the numbers of each module that was put into it. Assumes nothing.
-use mathlib.Core.Path.{_≡_, refl, sym, ap, _∙_, subst}
+use mathlib.Core.Path.{_≡_, sym, _∙_}
 use mathlib.Core.Logic.{_⊎_, inl, inr}
-use mathlib.Core.List.{List, [], _∷_}
-use Prim.Native.Nat.{ℕ, zero, suc, _+_, _*_, _≤_, _<_}
+use mathlib.Core.List.{List}
+use Prim.Native.Nat.{ℕ, _+_, _*_, _≤_, _<_}
 use native.Mathlib.Omega.{arith}
 use native.Mathlib.Nat.{not-suc-le-zero}
 use native.Mathlib.Decide.{ℕ-discrete, decLt}
@@ -12,23 +12,9 @@ use Rattle.mcode.specs.Image.{noModule, moduleOf}
 use Rattle.mcode.specs.Step.{written}
 use Rattle.mcode.specs.declared.Module.{Module}
 use Rattle.mcode.specs.declared.Program.{Program}
-use Rattle.mcode.proofs.Zeros.{length-written}
+use Rattle.mcode.proofs.Zeros.{length-written, written-out, written-in}
 use Rattle.actions.specs.Table.{moduleIn, Tabled}
 use Rattle.engine.specs.Numbers.{numbersOf, Words, Narrow}
-
-pub written-out : (vs : List ℕ) (a : ℕ) (store : List ℕ) (i : ℕ) → (i < a) ⊎ (a + length vs ≤ i) → getD (written vs a store) i 0 ≡ getD store i 0
-unfolding written
-written-out [] a store i h = refl
-written-out (v ∷ vs) a store i (inl h) = written-out vs (a + 1) (set store a v) i (inl (omega arith)) ∙ getD-set-other store a i v 0 (λ z. omega arith)
-written-out (v ∷ vs) a store i (inr h) = written-out vs (a + 1) (set store a v) i (inr (omega arith)) ∙ getD-set-other store a i v 0 (λ z. omega arith)
-
-pub written-in : (vs : List ℕ) (a : ℕ) (store : List ℕ) (i n : ℕ) → n ≡ a + i → i < length vs → a + length vs ≤ length store → getD (written vs a store) n 0 ≡ getD vs i 0
-unfolding written
-written-in [] a store i n e h l = absurd (not-suc-le-zero h)
-written-in (v ∷ vs) a store zero n e h l =
-    let p : n ≡ a = omega arith in
-    written-out vs (a + 1) (set store a v) n (inl (omega arith)) ∙ ap (λ (j : ℕ). getD (set store a v) j 0) p ∙ getD-set-same store a v 0 (omega arith)
-written-in (v ∷ vs) a store (suc i) n e h l = written-in vs (a + 1) (set store a v) i n (omega arith) (omega arith) (simp length-set (omega arith))
 
 module _ (m : Module) (k : ℕ) (t : List ℕ) where
   abbrev put : List ℕ

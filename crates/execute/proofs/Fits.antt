@@ -8,7 +8,7 @@ use lib.ListN.{getD, length}
 use native.Mathlib.Omega.{arith}
 use Rattle.mcode.specs.Opcode.{lengths, takens, lefts}
 use Rattle.mcode.specs.Image.{parse, moduleOf, codeByte}
-use Rattle.mcode.specs.Depths.{marksOf}
+use Rattle.mcode.specs.Depths.{markAt, marksOf}
 use Rattle.mcode.specs.Machine.{isMachine, machine}
 use Rattle.mcode.specs.Demands.{OperandsExist, Operands}
 use Rattle.mcode.specs.declared.Module.{Module}
@@ -70,8 +70,8 @@ module _ (image table map : List ℕ) (w : ℕ) (P : Prepared image table map w)
     abbrev at : ℕ
     at = r .pc - r .start
 
-    rules : Rules image program u (marksOf map u) at (r .depth) (codeByte image u at) (codeByte image u (at + 1)) (codeByte image u (at + 2))
-    rules = rules-at image program u (marksOf map u) at (r .depth) (follows-at image program map (P .fits) (r .unit) at (r .depth) (g .at))
+    rules : Rules image program u (marksOf map u) at (markAt map u at) (r .depth) (codeByte image u at) (codeByte image u (at + 1)) (codeByte image u (at + 2))
+    rules = rules-at image program u (marksOf map u) at (markAt map u at) (r .depth) (g .at .here) (follows-at image program map (P .fits) (r .unit) at (r .depth) (g .at))
 
     pub listed-of : 1 ≤ getD lengths (opcodeAt image r) 0
     listed-of = rw (start, place (anchored .own)) at (rules .listed)

@@ -25,8 +25,16 @@ pub fn put_place(out: &mut Block, used: &mut usize, p: usize) {
     right(out, used, p as u64, 6);
 }
 
-fn put_depth(out: &mut Block, used: &mut usize, depth: u8) {
-    right(out, used, depth as u64, 7);
+// The depth of a mark, and its results beside it where there are any.
+fn put_depth(out: &mut Block, used: &mut usize, mark: u8) {
+    let depth = depths::rules::depth_of(mark) as u64;
+    let results = depths::rules::promised_of(mark) as u64;
+    if results == 0 {
+        right(out, used, depth, 7);
+    } else {
+        right(out, used, depth, 5);
+        named(out, used, b"/", results);
+    }
     blanks(out, used, 2);
 }
 
@@ -104,12 +112,12 @@ fn put_marked(
     image: &[u8],
     m: Module,
     p: u16,
-    depth: u8,
+    mark: u8,
 ) -> usize {
     put_labels(out, used, image, m, p);
     let i = instruction_at(image, m, p);
     put_place(out, used, p as usize);
-    put_depth(out, used, depth);
+    put_depth(out, used, mark);
     put_instruction(out, used, image, m, p, i);
     p as usize + i.size as usize
 }
@@ -160,9 +168,9 @@ fn put_line(
 {
     let at = here.at;
     let shown = here.shown;
-    let depth = marks[at];
-    if depth != 0xff {
-        let e = put_marked(out, used, image, m, at as u16, depth);
+    let mark = marks[at];
+    if mark != 0xff {
+        let e = put_marked(out, used, image, m, at as u16, mark);
         return Place {
             at: at + 1,
             shown: largest(shown, e),

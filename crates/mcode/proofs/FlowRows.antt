@@ -17,7 +17,7 @@ use Rattle.mcode.specs.declared.Flow.the-variants.{Fault, Ends, To, Fork
 use Rattle.mcode.specs.Decode.{Action, Put, AddTop, Jump, JumpZero, OrJump, AndJump, Load, LoadTop, LoadIndexed, Store, StoreBelow, StoreIndexed, LoadByte, StoreByte, One, Two, Three, Copy, Nothing, Read, Write, Trap, Enter, Follow, Call, CallLinked, CallExternal, Return, Transfer, PutPair, LoadPair, LoadPairTop, StorePair, StorePairBelow, Double}
 use Rattle.mcode.specs.Word.{pick}
 use Rattle.mcode.specs.Opcode.{lengths}
-use Rattle.mcode.specs.Depths.{Analysis, Follows, depths, onward, jumps, calls, callsIn}
+use Rattle.mcode.specs.Depths.{Analysis, Follows, depths, carry, onward, jumps, calls, callsIn}
 use Rattle.mcode.specs.Decode.{decodeOf, row1, row2, row3, loads, stores, row8, row9, row10, row11, row12, row13, row14, row15}
 use Rattle.mcode.proofs.Standing.{met}
 
@@ -59,12 +59,12 @@ flowOf image program m n e (StorePair a) = To n e
 flowOf image program m n e (StorePairBelow k) = To n e
 flowOf image program m n e (Double op) = To n e
 
-module _ (image : List ℕ) (program : Program) (m : Module) (w : List ℕ) (o : ℕ → ℕ) (n e : ℕ) (r : Registers) (bases : List ℕ) where
-  -- the row op, if it is used
+module _ (image : List ℕ) (program : Program) (m : Module) (w : List ℕ) (g o : ℕ → ℕ) (n e : ℕ) (r : Registers) (bases : List ℕ) where
+  -- the row op, if it is used; g makes the marks
   abbrev Row : ℕ → Type 0
   Row op =
       pick (eqb (getD lengths op 0) 0) (Unit {0})
-      (Follows (depths image program m) w (onward image program m (r .pc .0) op (o 1) (o 2) n e) → Follows (depths image program m) w (flowOf image program m n e (decodeOf op o r bases .action)))
+      (Follows (depths image program m) w (carry g (onward image program m (r .pc .0) op (o 1) (o 2) n e)) → Follows (depths image program m) w (carry g (flowOf image program m n e (decodeOf op o r bases .action))))
 
   abbrev Rows : ℕ → Type 0
   Rows zero = Unit {0}
@@ -78,8 +78,8 @@ module _ (image : List ℕ) (program : Program) (m : Module) (w : List ℕ) (o :
 
   all-rows : Rows 256
   unfolding lengths onward jumps decodeOf row1 row2 row3 loads stores row8 row9 row10 row11 row12 row13 row14 row15
-  all-rows = (λ f. f, (λ f. f, (λ f. f, (λ f. f, (λ f. f, (λ f. f, (λ f. f, (λ f. f, (λ f. f, (λ f. f, (λ f. f, (λ f. f, (λ f. f, (λ f. f, (λ f. f, (λ f. f, (tt, (λ f. f, (λ f. f, (λ f. f, (λ f. f, (tt, (λ f. f, (λ f. f, (tt, (tt, (tt, (tt, (tt, (tt, (tt, (tt, (tt, (λ f. f, (tt, (tt, (λ f. f, (λ f. f, (λ f. f, (λ f. f, (λ f. f, (tt, (tt, (tt, (λ f. f, (λ f. f, (λ f. f, (λ f. f, (λ f. f, (λ f. f, (λ f. f, (λ f. f, (λ f. f, (λ f. f, (λ f. f, (λ f. f, (tt, (λ f. f, (λ f. f, (λ f. f, (tt, (tt, (tt, (tt, (λ f. f, (λ f. f, (λ f. f, (λ f. f, (λ f. f, (λ f. f, (λ f. f, (λ f. f, (tt, (tt, (λ f. f, (tt, (tt, (tt, (tt, (tt, (tt, (λ f. f, (λ f. f, (λ f. f, (λ f. f, (λ f. f, (tt, (tt, (tt, (tt, (λ f. f, (tt, (tt, (tt, (λ f. f, (λ f. f, (tt, (tt, (tt, (tt, (tt, (tt, (tt, (tt, (tt, (λ f. f, (λ f. f, (tt, (tt, (λ f. f, (λ f. f, (λ f. f, (tt, (tt, (tt, (tt, (tt, (tt, (λ f. f, (λ f. f, (tt, (λ f. f, (λ f. f, (tt, (tt, (λ f. f, (λ f. f, (λ f. f, (λ f. f, (λ f. f, (λ f. f, (λ f. f, (λ f. f, (λ f. f, (λ f. f, (λ f. f, (λ f. f, (λ f. f, (λ f. f, (λ f. f, (λ f. f, (λ f. f, (λ f. f, (λ f. f, (λ f. f, (λ f. f, (λ f. f, (λ f. f, (λ f. f, (λ f. f, (λ f. f, (λ f. f, (λ f. f, (λ f. f, (λ f. f, (λ f. f, (λ f. f, (λ f. f, (λ f. f, (λ f. f, (λ f. f, (λ f. f, (λ f. f, (λ f. f, (λ f. f, (λ f. f, (λ f. f, (λ f. f, (λ f. f, (λ f. f, (λ f. f, (λ f. f, (λ f. f, (λ f. f, (λ f. f, (λ f. f, (λ f. f, (λ f. f, (λ f. f, (λ f. f, (λ f. f, (λ f. f, (λ f. f, (λ f. f, (λ f. f, (λ f. f, (λ f. f, (λ f. f, (λ f. f, (λ f. f, (λ f. f, (λ f. f, (λ f. f, (λ f. f, (λ f. f, (λ f. f, (λ f. f, (λ f. f, (λ f. f, (λ f. f, (λ f. f, (λ f. f, (λ f. f, (λ f. f, (λ f. met (depths image program m) w (ltb (o 1) (program .count)) (To n e) f .1, (λ f. met (depths image program m) w (ltb (o 1) (program .count)) (To n e) f .1, (λ f. f, (λ f. f, (λ f. f, (λ f. f, (λ f. f, (λ f. f, (λ f. f, (λ f. f, (λ f. f, (λ f. f, (λ f. f, (λ f. f, (λ f. f, (λ f. f, (λ f. met (depths image program m) w (ltb (o 1) (program .count)) (To n e) f .1, (λ f. met (depths image program m) w (ltb (o 1) (program .count)) (To n e) f .1, (λ f. f, (λ f. f, (λ f. f, (λ f. f, (λ f. f, (λ f. f, (λ f. f, (λ f. f, (λ f. f, (λ f. f, (λ f. met (depths image program m) w (ltb (o 1) (program .count)) (To n e) f .1, (λ f. f, (λ f. f, (λ f. f, (λ f. f, (λ f. f, (tt, (λ f. f, (λ f. f, (λ f. f, (λ f. f, (λ f. f, (λ f. f, (λ f. f, (λ f. f, (λ f. f, (λ f. f, (λ f. f, (λ f. f, (λ f. f, (λ f. f, (λ f. f, (λ f. f, (λ f. f, tt))))))))))))))))))))))))))))))))))))))))))))))))))))))))))))))))))))))))))))))))))))))))))))))))))))))))))))))))))))))))))))))))))))))))))))))))))))))))))))))))))))))))))))))))))))))))))))))))))))))))))))))))))))))))))))))))))))))))))))))))))))))))))))))))
+  all-rows = (λ f. f, (λ f. f, (λ f. f, (λ f. f, (λ f. f, (λ f. f, (λ f. f, (λ f. f, (λ f. f, (λ f. f, (λ f. f, (λ f. f, (λ f. f, (λ f. f, (λ f. f, (λ f. f, (tt, (λ f. f, (λ f. f, (λ f. f, (λ f. f, (tt, (λ f. f, (λ f. f, (tt, (tt, (tt, (tt, (tt, (tt, (tt, (tt, (tt, (λ f. f, (tt, (tt, (λ f. f, (λ f. f, (λ f. f, (λ f. f, (λ f. f, (tt, (tt, (tt, (λ f. f, (λ f. f, (λ f. f, (λ f. f, (λ f. f, (λ f. f, (λ f. f, (λ f. f, (λ f. f, (λ f. f, (λ f. f, (λ f. f, (tt, (λ f. f, (λ f. f, (λ f. f, (tt, (tt, (tt, (tt, (λ f. f, (λ f. f, (λ f. f, (λ f. f, (λ f. f, (λ f. f, (λ f. f, (λ f. f, (tt, (tt, (λ f. f, (tt, (tt, (tt, (tt, (tt, (tt, (λ f. f, (λ f. f, (λ f. f, (λ f. f, (λ f. f, (tt, (tt, (tt, (tt, (λ f. f, (tt, (tt, (tt, (λ f. f, (λ f. f, (tt, (tt, (tt, (tt, (tt, (tt, (tt, (tt, (tt, (λ f. f, (λ f. f, (tt, (tt, (λ f. f, (λ f. f, (λ f. f, (tt, (tt, (tt, (tt, (tt, (tt, (λ f. f, (λ f. f, (tt, (λ f. f, (λ f. f, (tt, (tt, (λ f. f, (λ f. f, (λ f. f, (λ f. f, (λ f. f, (λ f. f, (λ f. f, (λ f. f, (λ f. f, (λ f. f, (λ f. f, (λ f. f, (λ f. f, (λ f. f, (λ f. f, (λ f. f, (λ f. f, (λ f. f, (λ f. f, (λ f. f, (λ f. f, (λ f. f, (λ f. f, (λ f. f, (λ f. f, (λ f. f, (λ f. f, (λ f. f, (λ f. f, (λ f. f, (λ f. f, (λ f. f, (λ f. f, (λ f. f, (λ f. f, (λ f. f, (λ f. f, (λ f. f, (λ f. f, (λ f. f, (λ f. f, (λ f. f, (λ f. f, (λ f. f, (λ f. f, (λ f. f, (λ f. f, (λ f. f, (λ f. f, (λ f. f, (λ f. f, (λ f. f, (λ f. f, (λ f. f, (λ f. f, (λ f. f, (λ f. f, (λ f. f, (λ f. f, (λ f. f, (λ f. f, (λ f. f, (λ f. f, (λ f. f, (λ f. f, (λ f. f, (λ f. f, (λ f. f, (λ f. f, (λ f. f, (λ f. f, (λ f. f, (λ f. f, (λ f. f, (λ f. f, (λ f. f, (λ f. f, (λ f. f, (λ f. f, (λ f. met (depths image program m) w g (ltb (o 1) (program .count)) (To n e) f .1, (λ f. met (depths image program m) w g (ltb (o 1) (program .count)) (To n e) f .1, (λ f. f, (λ f. f, (λ f. f, (λ f. f, (λ f. f, (λ f. f, (λ f. f, (λ f. f, (λ f. f, (λ f. f, (λ f. f, (λ f. f, (λ f. f, (λ f. f, (λ f. met (depths image program m) w g (ltb (o 1) (program .count)) (To n e) f .1, (λ f. met (depths image program m) w g (ltb (o 1) (program .count)) (To n e) f .1, (λ f. f, (λ f. f, (λ f. f, (λ f. f, (λ f. f, (λ f. f, (λ f. f, (λ f. f, (λ f. f, (λ f. f, (λ f. met (depths image program m) w g (ltb (o 1) (program .count)) (To n e) f .1, (λ f. f, (λ f. f, (λ f. f, (λ f. f, (λ f. f, (tt, (λ f. f, (λ f. f, (λ f. f, (λ f. f, (λ f. f, (λ f. f, (λ f. f, (λ f. f, (λ f. f, (λ f. f, (λ f. f, (λ f. f, (λ f. f, (λ f. f, (λ f. f, (λ f. f, (λ f. f, tt))))))))))))))))))))))))))))))))))))))))))))))))))))))))))))))))))))))))))))))))))))))))))))))))))))))))))))))))))))))))))))))))))))))))))))))))))))))))))))))))))))))))))))))))))))))))))))))))))))))))))))))))))))))))))))))))))))))))))))))))))))))))))))))))
 
-  pub flow-row : (op : ℕ) → op < 256 → 0 < getD lengths op 0 → Follows (depths image program m) w (onward image program m (r .pc .0) op (o 1) (o 2) n e)
-      → Follows (depths image program m) w (flowOf image program m n e (decodeOf op o r bases .action))
+  pub flow-row : (op : ℕ) → op < 256 → 0 < getD lengths op 0 → Follows (depths image program m) w (carry g (onward image program m (r .pc .0) op (o 1) (o 2) n e))
+      → Follows (depths image program m) w (carry g (flowOf image program m n e (decodeOf op o r bases .action)))
   flow-row op h l f = (rw (ne-eqb (getD lengths op 0) 0 (λ z. omega arith)) at (row-of 256 op h all-rows)) f

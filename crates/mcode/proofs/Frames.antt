@@ -1,26 +1,38 @@
 -- Calls, returns and transfers have the right outcome. Assumes nothing.
 use mathlib.Core.Path.{_≡_, refl, sym, _∙_, subst}
-use mathlib.Core.Bool.{true}
+use mathlib.Core.Logic.{_⊎_, inl, inr}
+use mathlib.Core.Bool.{true, not}
 use mathlib.Core.List.{List}
 use Prim.Native.Nat.{ℕ, _+_, _-_, _≤_, _<_}
 use native.Mathlib.Omega.{arith}
 use lib.ListN.{length, getD, set, replicate, length-set, getD-replicate}
-use lib.Dec.{ltb, leb, eqb}
-use borrow.Author.Tests.{ltb-true, ltb-false, leb-true, eqb-true}
+use lib.Dec.{T, ltb, leb, eqb, eqb→eq}
+use borrow.Author.Tests.{ltb-true, ltb-false, leb-true, eqb-true, eqb-false}
 use Rattle.mcode.specs.declared.Position.{Position}
+use Rattle.mcode.specs.declared.Module.{Module}
 use Rattle.mcode.specs.declared.Flow.the-variants.{To, Fault as NoFlow}
 use Rattle.mcode.specs.Decode.{Action, Return, Transfer}
 use Rattle.mcode.specs.Word.{pick, and}
 use Rattle.mcode.specs.Image.{margin, moduleOf, basesOf, procCount, entryOf, paramsOf, resultsOf}
-use Rattle.mcode.specs.Depths.{depths, calls, callsIn, marksOf}
+use Rattle.mcode.specs.Depths.{passed, depths, calls, callsIn, marksOf}
 use Rattle.mcode.specs.Machine.{position, machine, at, framed, top, second, take2}
 use Rattle.mcode.specs.Step.{storesTo, wordIn, call, unitBased, lands, backTo, returned, processAt, withinLimit, resumes, isProcess, savedStore, restoredMachine, switched, transferred}
-use Rattle.mcode.proofs.Tests.{and-both}
+use Rattle.mcode.specs.Demands.{isPlain}
+use Rattle.mcode.proofs.Tests.{and-both, not-is}
+use Rattle.mcode.proofs.Marks.{mark-real}
 use Rattle.mcode.proofs.Standing.{At, at-of, Good, entry-at, met}
-use Rattle.mcode.proofs.Rows.{takenBy, leftBy}
+use Rattle.mcode.proofs.Rows.{takenBy, leftBy, ownOp}
 use Rattle.mcode.proofs.Zeros.{zeros-restored, length-saved-store}
-use Rattle.mcode.proofs.Shapes.{Here, P, R, D, M, Marks, Asks, Stack, take2-fine, framed-fine, same-stack}
-use Rattle.mcode.proofs.Right.{Right, on, off, other, to, to-all, by-test, in-store}
+use Rattle.mcode.proofs.Shapes.{Here, P, R, D, M, U, Mark, Marks, Asks, Stack, take2-fine, framed-counts, same-stack}
+use Rattle.mcode.proofs.Right.{Right, on, off, other, led, to-all, by-test, in-store}
+
+-- a call, a return and a transfer are not plain
+not-plain : (op : ℕ) → (0o354 ≤ op) ⊎ (op ≡ 0o256) → isPlain op ≡ true → ⊥
+not-plain op h p = let (a, b) = and-both (ltb op 0o354) (not (eqb op 0o256)) p in go (ltb-true _ _ a) (eqb-false _ _ (not-is _ b)) h
+  where
+    go : op < 0o354 → (op ≡ 0o256 → ⊥) → (0o354 ≤ op) ⊎ (op ≡ 0o256) → ⊥
+    go l n (inl g) = omega arith
+    go l n (inr e) = n e
 
 module _ (H : Here) (n : Position) where
   set3 : (s a b c : ℕ) → length (set (set (set (H .x .store) s a) (s + 1) b) (s + 2) c) ≡ length (H .x .store)
@@ -28,20 +40,22 @@ module _ (H : Here) (n : Position) where
 
   -- a call of procedure i of module k, by the action a, from this depth and stack
   pub call-right : (a : Action) (k i link mk : ℕ) (q : Position) (d : ℕ) (stack : List ℕ) → At (P H) (H .lent .map) k (entryOf (H .lent .image) (moduleOf (P H) k) i) d
-      → Stack H (D H - takenBy a) d stack → D H - takenBy a + leftBy a ≡ d → Right H n a (call (H .lent) k i link mk (machine (at q d (R H)) stack) (H .x))
+      → Stack H (D H - takenBy a) d stack → D H - takenBy a + leftBy a ≡ d → ((op : ℕ) → T (ownOp op a) → 0o355 ≤ op) → Right H n a (call (H .lent) k i link mk (machine (at q d (R H)) stack) (H .x))
   unfolding call
-  call-right a k i link mk q d stack e h z =
+  call-right a k i link mk q d stack e h z c =
       let entry = position (entryOf (H .lent .image) (moduleOf (P H) k) i) in
       by-test H n (ltb (R H .h .0) (R H .s .0 + 4)) (λ t. off tt) (λ t.
-      to-all H n (machine (at entry d (framed k (R H .s .0) (R H .s .0 + 4) (R H))) stack) _ _
-      (framed-fine H (takenBy a) (leftBy a) k entry d (R H .s .0) (R H .s .0 + 4) stack h e (ltb-false _ _ t) z) (set3 (R H .s .0) link (R H .l .0) mk) refl)
+      led H n (machine (at entry d (framed k (R H .s .0) (R H .s .0 + 4) (R H))) stack) _ _
+      (framed-counts H (takenBy a) (leftBy a) k entry d (R H .s .0) (R H .s .0 + 4) stack h e (ltb-false _ _ t) z)
+      (λ op o p. absurd (not-plain op (inl (let l = c op o in omega arith)) p)) (set3 (R H .s .0) link (R H .l .0) mk) refl)
 
   back-right : (k t : ℕ) → R H .l .0 ≤ R H .h .0 → Right H n Return (backTo (H .lent) k t (H .x))
   unfolding backTo
   back-right k t h =
       by-test H n (lands (H .lent) k t (R H)) (λ s.
-      to H n (machine (at (position t) (D H) (framed k (wordIn (H .x) (R H .l .0 + 1)) (R H .l .0) (R H))) (M H .stack))
-      (framed-fine H 0 0 k (position t) (D H) (wordIn (H .x) (R H .l .0 + 1)) (R H .l .0) (M H .stack) (same-stack H) (at-of (P H) (H .lent .map) k t (D H) s) h (omega arith)))
+      led H n (machine (at (position t) (D H) (framed k (wordIn (H .x) (R H .l .0 + 1)) (R H .l .0) (R H))) (M H .stack)) _ _
+      (framed-counts H 0 0 k (position t) (D H) (wordIn (H .x) (R H .l .0 + 1)) (R H .l .0) (M H .stack) (same-stack H) (at-of (P H) (H .lent .map) k t (D H) s) h (omega arith))
+      (λ op o p. absurd (not-plain op (inl (let e = eqb→eq op 0o354 o in omega arith)) p)) refl refl)
       (λ s. off tt)
 
   pub return-right : Right H n Return (returned (H .lent) (H .x))
@@ -78,6 +92,7 @@ module _ (H : Here) (n : Position) where
             zeros = zeros-restored (H .x .store) (r .k) (r .s - 1 - r .k) (r .k) (replicate 16 0) (omega arith) (λ i l h. getD-replicate 16 i 0 0 l);
           } in
           on (record { good = g; sized = length-saved-store (getD (basesOf (P H)) (R H .unit) 0) n (second (M H)) (H .x) (D H - 2) ∙ H .kept .sized; outs = H .kept .outs }) (other refl (g .at .few))
+          (λ op o p. absurd (not-plain op (inr (eqb→eq op 0o256 o)) p))
 
   pub transfer-right : (b : ℕ) → D H - 2 + 0 ≤ 16 → Marks H (n .0) (D H - 2 + 0) → Right H n (Transfer b) (transferred (H .lent) b n (H .x))
   unfolding transferred
@@ -87,21 +102,31 @@ module _ (H : Here) (n : Position) where
       (λ t. to-all H n (take2 n (M H)) (set (H .x .store) (second (M H)) (R H .p .0)) (H .x .outputs) (take2-fine H n h f) (length-set (H .x .store) (second (M H)) (R H .p .0)) refl)
       (λ t. switch-right b q)))
 
+  -- what a call of procedure i of module m asks, whose next position is q
+  pub asks-call : (m : Module) (i q e : ℕ) → Asks H (calls (H .lent .image) m i q e)
+      → (i < procCount m) × (e ≡ paramsOf (H .lent .image) m i) × Marks H q (resultsOf (H .lent .image) m i)
+  unfolding calls
+  asks-call m i q e f =
+      let image = H .lent .image in
+      let A = depths image (P H) (U H) in
+      let marks = marksOf (H .lent .map) (U H) in
+      let (t, g) = met A marks (passed (Mark H)) (ltb i (procCount m)) (pick (eqb e (paramsOf image m i)) (To q (resultsOf image m i)) NoFlow) f in
+      let (s, j) = met A marks (passed (Mark H)) (eqb e (paramsOf image m i)) (To q (resultsOf image m i)) g in
+      (ltb-true _ _ t, eqb-true _ _ s, j)
+
   -- a call of procedure i of module k that fits
   pub callee : (k : ℕ) → k < P H .count → (i q : ℕ) {e : ℕ} (d : ℕ) → e ≤ 16 → Asks H (calls (H .lent .image) (moduleOf (P H) k) i q e) → e ≡ d
       → At (P H) (H .lent .map) k (entryOf (H .lent .image) (moduleOf (P H) k) i) d
-  unfolding calls
   callee k l i q {e} d h f z =
       let m = moduleOf (P H) k in
-      let A = depths (H .lent .image) (P H) (moduleOf (P H) (R H .unit)) in
-      let marks = marksOf (H .lent .map) (moduleOf (P H) (R H .unit)) in
-      let (t, g) = met A marks (ltb i (procCount m)) (pick (eqb e (paramsOf (H .lent .image) m i)) (To q (resultsOf (H .lent .image) m i)) NoFlow) f in
-      let (s, j) = met A marks (eqb e (paramsOf (H .lent .image) m i)) (To q (resultsOf (H .lent .image) m i)) g in
-      entry-at (H .lent .image) (P H) (H .lent .map) (H .fit) k i l (ltb-true _ _ t) d (subst (λ (y : ℕ). y ≤ 16) z h) (sym z ∙ eqb-true _ _ s)
+      let image = H .lent .image in
+      let (lt, s, j) = asks-call m i q e f in
+      let sound = H .told .laid .sound k l in
+      entry-at image (P H) (H .lent .map) (H .fit) k i l lt (mark-real (paramsOf image m i) (resultsOf image m i) (sound .params i lt) (sound .results i lt)) d (subst (λ (y : ℕ). y ≤ 16) z h) (sym z ∙ s)
 
   -- a call into another module that fits
   pub in-other : (k i q e : ℕ) → Asks H (callsIn (H .lent .image) (P H) k i q e) → (k < P H .count) × Asks H (calls (H .lent .image) (moduleOf (P H) k) i q e)
   unfolding callsIn
   in-other k i q e f =
-      let (t, g) = met (depths (H .lent .image) (P H) (moduleOf (P H) (R H .unit))) (marksOf (H .lent .map) (moduleOf (P H) (R H .unit))) (ltb k (P H .count)) (calls (H .lent .image) (moduleOf (P H) k) i q e) f in
+      let (t, g) = met (depths (H .lent .image) (P H) (U H)) (marksOf (H .lent .map) (U H)) (passed (Mark H)) (ltb k (P H .count)) (calls (H .lent .image) (moduleOf (P H) k) i q e) f in
       (ltb-true _ _ t, g)

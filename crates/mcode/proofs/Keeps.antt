@@ -3,24 +3,22 @@ use mathlib.Core.Path.{_≡_, refl, ap, ap₂, subst}
 use Prim.Native.Nat.{ℕ, _+_, _-_, _≤_, _<_}
 use native.Mathlib.Omega.{arith}
 use lib.ListN.{getD, set, length-set}
-use lib.Dec.{ltb, eqb}
+use lib.Dec.{ltb, eqb, leb→le}
 use borrow.Author.Tests.{ltb-false}
-use Rattle.mcode.specs.declared.Module.{Module}
 use Rattle.mcode.specs.declared.Position.{Position}
 use Rattle.mcode.specs.declared.Stop.{Stop}
 use Rattle.mcode.specs.Decode.{Action, Put, AddTop, Jump, JumpZero, OrJump, AndJump, Load, LoadTop, LoadIndexed, Store, StoreBelow, StoreIndexed, LoadByte, StoreByte, One, Two, Three, Copy, Nothing, Read, Write, Trap, Enter, Follow, Call, CallLinked, CallExternal, Return, Transfer, PutPair, LoadPair, LoadPairTop, StorePair, StorePairBelow, Double}
 use Rattle.mcode.specs.Opcode.{lengths, takens, lefts}
-use Rattle.mcode.specs.Image.{moduleOf, basesOf, codeByte}
-use Rattle.mcode.specs.Depths.{marksOf}
+use Rattle.mcode.specs.Image.{moduleOf, basesOf}
+use Rattle.mcode.specs.Depths.{passed, marksOf}
 use Rattle.mcode.specs.Machine.{State, go, halt, position, machine, at, framed, top, second, take1, take2, put, replace1, replace2, replace3, putPair, pairFor1}
 use Rattle.mcode.specs.Decode.{Decoded, decodeOf}
 use Rattle.mcode.specs.Step.{performOf, stepOf}
-use Rattle.mcode.proofs.Standing.{follows-at, Rules, rules-at}
 use Rattle.mcode.proofs.Rows.{listed-below, takenBy, leftBy, size-row, taken-row, left-row}
 use Rattle.mcode.proofs.FlowRows.{flowOf, flow-row}
 use Rattle.mcode.proofs.Faults.{Found, one-real, two-real, three-real, followed-real}
-use Rattle.mcode.proofs.Shapes.{Here, P, R, D, M, Asks, Ok, same-stack, link-off, next-at, on-fine, take1-fine, take2-fine, take3-fine, put-fine, replace1-fine, replace2-fine, replace3-fine, framed-fine, pair-fine, pair1-fine, pair4-fine}
-use Rattle.mcode.proofs.Right.{Did, Right, off, falls-or, falls-and, to, to-all, by-test, to-either, reads, writes, computes, reads-pair, writes-pair, Says, says}
+use Rattle.mcode.proofs.Shapes.{Here, P, R, D, M, U, Op, opcode, Mark, rules, Asks, Ok, same-stack, link-off, next-at, next-stays, on-fine, take1-fine, take2-fine, take3-fine, put-fine, replace1-fine, replace2-fine, replace3-fine, framed-counts, pair-fine, pair1-fine, pair4-fine}
+use Rattle.mcode.proofs.Right.{Did, Leads, Right, off, falls-or, falls-and, to, to-all, by-test, to-either, reads, writes, computes, reads-pair, writes-pair, Says, says}
 use Rattle.mcode.proofs.Frames.{call-right, return-right, transfer-right, callee, in-other}
 
 module _ (H : Here) where
@@ -54,16 +52,18 @@ module _ (H : Here) where
   perform-right q Trap t h f = off tt
   perform-right q (Enter b) t h f =
       by-test H q (ltb (R H .h .0) (R H .s .0 + b)) (λ e. off tt) (λ e.
-      to H q (machine (at q (D H) (framed (R H .unit) (R H .l .0) (R H .s .0 + b) (R H))) (M H .stack))
-      (framed-fine H 0 0 (R H .unit) q (D H) (R H .l .0) (R H .s .0 + b) (M H .stack) (same-stack H) (next-at H (q .0) (D H) h f (omega arith)) (ltb-false _ _ e) (omega arith)))
+      to H q (machine (at q (D H) (framed (R H .unit) (R H .l .0) (R H .s .0 + b) (R H))) (M H .stack)) (record {
+        counts = framed-counts H 0 0 (R H .unit) q (D H) (R H .l .0) (R H .s .0 + b) (M H .stack) (same-stack H) (next-at H (q .0) (D H) h f (omega arith)) (ltb-false _ _ e) (omega arith);
+        stays = next-stays H _ h f refl refl refl;
+      }))
   perform-right q (Follow b) t h f = computes H q (put q (M H)) (followed-real (H .x .store) b _) (λ v. put-fine H 0 1 q v (omega arith) h f)
   perform-right q (Call i) t h f =
-      call-right H q (Call i) (R H .unit) i _ _ (R H .pc) (D H) (M H .stack) (callee H q (R H .unit) (H .kept .good .at .loaded) i (q .0) (D H) h f (omega arith)) (same-stack H) (omega arith)
+      call-right H q (Call i) (R H .unit) i _ _ (R H .pc) (D H) (M H .stack) (callee H q (R H .unit) (H .kept .good .at .loaded) i (q .0) (D H) h f (omega arith)) (same-stack H) (omega arith) (leb→le 0o355)
   perform-right q (CallLinked i) t h f =
-      call-right H q (CallLinked i) (R H .unit) i _ _ q (D H - 1) (set (M H .stack) (D H - 1) 0) (callee H q (R H .unit) (H .kept .good .at .loaded) i (q .0) (D H - 1) h f (omega arith)) (link-off H) (omega arith)
+      call-right H q (CallLinked i) (R H .unit) i _ _ q (D H - 1) (set (M H .stack) (D H - 1) 0) (callee H q (R H .unit) (H .kept .good .at .loaded) i (q .0) (D H - 1) h f (omega arith)) (link-off H) (omega arith) (leb→le 0o355)
   perform-right q (CallExternal k i) t h f =
       let (l, g) = in-other H q k i (q .0) (D H - 0 + 0) f in
-      call-right H q (CallExternal k i) k i _ _ (R H .pc) (D H) (M H .stack) (callee H q k l i (q .0) (D H) h g (omega arith)) (same-stack H) (omega arith)
+      call-right H q (CallExternal k i) k i _ _ (R H .pc) (D H) (M H .stack) (callee H q k l i (q .0) (D H) h g (omega arith)) (same-stack H) (omega arith) (leb→le 0o355)
   perform-right q Return t h f = return-right H q
   perform-right q (Transfer b) t h f = transfer-right H q b h f
   perform-right q (PutPair high low) t h f = to H q _ (pair-fine H q high low h f)
@@ -74,56 +74,53 @@ module _ (H : Here) where
   perform-right q (Double op) t h f = to H q _ (pair4-fine H q _ _ t h f)
 
   -- what is decoded where the machine stands agrees with the table, and its flow with the map
-  abbrev U : Module
-  U = moduleOf (P H) (R H .unit)
-
-  abbrev Op : ℕ → ℕ
-  Op i = codeByte (H .lent .image) U (R H .pc .0 + i)
-
-  abbrev pub opcode : ℕ
-  opcode = codeByte (H .lent .image) U (R H .pc .0)
-
   abbrev pub decoded : Decoded
-  decoded = decodeOf opcode Op (R H) (basesOf (P H))
+  decoded = decodeOf (opcode H) (Op H) (R H) (basesOf (P H))
 
   pub record Decodes : Type 0 where
-    pub rules : Rules (H .lent .image) (P H) U (marksOf (H .lent .map) U) (R H .pc .0) (D H) opcode (Op 1) (Op 2)
-    pub below : opcode < 256
-    pub size : getD lengths opcode 0 ≡ decoded .size
-    pub taken : getD takens opcode 0 ≡ takenBy (decoded .action)
-    pub left : getD lefts opcode 0 ≡ leftBy (decoded .action)
+    pub below : opcode H < 256
+    pub size : getD lengths (opcode H) 0 ≡ decoded .size
+    pub taken : getD takens (opcode H) 0 ≡ takenBy (decoded .action)
+    pub left : getD lefts (opcode H) 0 ≡ leftBy (decoded .action)
 
   pub decodes : Decodes
   decodes =
-      let rules = rules-at (H .lent .image) (P H) U (marksOf (H .lent .map) U) (R H .pc .0) (D H) (follows-at (H .lent .image) (P H) (H .lent .map) (H .fit) (R H .unit) (R H .pc .0) (D H) (H .kept .good .at)) in
-      let h : opcode < 256 = listed-below opcode (rules .listed) in
+      let l = rules H .listed in
+      let h : opcode H < 256 = listed-below (opcode H) l in
       record {
-        rules = rules;
         below = h;
-        size = size-row Op (R H) (basesOf (P H)) opcode h (rules .listed);
-        taken = taken-row Op (R H) (basesOf (P H)) opcode h (rules .listed);
-        left = left-row Op (R H) (basesOf (P H)) opcode h (rules .listed);
+        size = size-row (Op H) (R H) (basesOf (P H)) (opcode H) h l;
+        taken = taken-row (Op H) (R H) (basesOf (P H)) (opcode H) h l;
+        left = left-row (Op H) (R H) (basesOf (P H)) (opcode H) h l;
       }
 
   -- one step
   abbrev pub nextAt : Position
   nextAt = position (R H .pc .0 + decoded .size)
 
+  -- the depth after it, and what its flow asks
+  abbrev depthThen : ℕ
+  depthThen = D H - takenBy (decoded .action) + leftBy (decoded .action)
+
+  then-is : D H - getD takens (opcode H) 0 + getD lefts (opcode H) 0 ≡ depthThen
+  then-is = ap₂ (λ (j k : ℕ). D H - j + k) (decodes .taken) (decodes .left)
+
+  pub asked : Asks H (flowOf (H .lent .image) (P H) (U H) (nextAt .0) depthThen (decoded .action))
+  asked =
+      let p = R H .pc .0 in
+      let size = getD lengths (opcode H) 0 in
+      let n : p + size ≡ nextAt .0 = ap (λ (k : ℕ). p + k) (decodes .size) in
+      let row = D H - getD takens (opcode H) 0 + getD lefts (opcode H) 0 in
+      let f = flow-row (H .lent .image) (P H) (U H) (marksOf (H .lent .map) (U H)) (passed (Mark H)) (Op H) (p + size) row (R H) (basesOf (P H)) (opcode H) (decodes .below) (rules H .listed) (rules H .goes-on) in
+      subst (λ (k : ℕ). Asks H (flowOf (H .lent .image) (P H) (U H) (nextAt .0) k (decoded .action))) then-is
+      (subst (λ (k : ℕ). Asks H (flowOf (H .lent .image) (P H) (U H) k row (decoded .action))) n f)
+
   step-right : Right H nextAt (decoded .action) (stepOf (H .lent) (H .x))
   unfolding stepOf
   step-right =
-      let p = R H .pc .0 in
-      let size = getD lengths opcode 0 in
-      let n : p + size ≡ p + decoded .size = ap (λ (k : ℕ). p + k) (decodes .size) in
-      let row = D H - getD takens opcode 0 + getD lefts opcode 0 in
-      let d : row ≡ D H - takenBy (decoded .action) + leftBy (decoded .action) = ap₂ (λ (j k : ℕ). D H - j + k) (decodes .taken) (decodes .left) in
-      let f = flow-row (H .lent .image) (P H) U (marksOf (H .lent .map) U) Op (p + size) row (R H) (basesOf (P H)) opcode (decodes .below) (decodes .rules .listed) (decodes .rules .goes-on) in
-      perform-right nextAt (decoded .action) (subst (λ (k : ℕ). k ≤ D H) (decodes .taken) (decodes .rules .found))
-      (subst (λ (k : ℕ). k ≤ 16) d (decodes .rules .room))
-      (subst (λ (k : ℕ). Asks H (flowOf (H .lent .image) (P H) U (p + decoded .size) k (decoded .action))) d
-      (subst (λ (k : ℕ). Asks H (flowOf (H .lent .image) (P H) U k row (decoded .action))) n f))
+      perform-right nextAt (decoded .action) (subst (λ (k : ℕ). k ≤ D H) (decodes .taken) (rules H .found)) (subst (λ (k : ℕ). k ≤ 16) then-is (rules H .room)) asked
 
-  pub step-goes : {y : State} → stepOf (H .lent) (H .x) ≡ go y → Ok H y × Did H nextAt y (decoded .action)
+  pub step-goes : {y : State} → stepOf (H .lent) (H .x) ≡ go y → Ok H y × Did H nextAt y (decoded .action) × Leads H nextAt (decoded .action) (y .machine)
   step-goes e = subst (Says H nextAt (decoded .action)) e (says H nextAt (decoded .action) step-right)
 
   pub step-halts : {k : Stop} → stepOf (H .lent) (H .x) ≡ halt k → Found k

@@ -8,7 +8,7 @@ use lib.ListN.{length, replicate}
 use Rattle.mcode.specs.Word.{pick, and, allBelow, anyBelow, oneOf, twoOf, threeOf, doubleOf}
 use Rattle.mcode.specs.Opcode.{lengths, takens, lefts}
 use Rattle.mcode.specs.Image.{byteAt, wordAt, skipAt, bitsAt, dataAt, countAt, nameAt, lengthAt, limitedAt, recordAt, recordsAt, bodyAt, moduleAt, refusedBy, modulesFrom, parse, inCode}
-use Rattle.mcode.specs.Depths.{fits, target, jumps, calls, callsIn, onward, flowAt, marked, mapFits}
+use Rattle.mcode.specs.Depths.{fits, markOf, depthOf, promised, isMark, passed, permits, depthFlow, target, jumps, calls, callsIn, onward, flowAt, marked, mapFits}
 use Rattle.mcode.specs.Machine.{isMachine}
 use Rattle.mcode.specs.Decode.{row1, row2, row3, loads, stores, row8, row9, row10, row11, row12, row13, row14, row15, decodeOf}
 use Rattle.mcode.specs.Step.{followed, call, unitOf, backTo, returned, isProcess, saved, restored, written, savedStore, restoredMachine, switched, transferred, performOf, stepOf}
@@ -34,8 +34,8 @@ all-hold [] t = tt
 all-hold (c ∷ cs) t = (holds (c .image) (c .budget) (c .expected) (t .0), all-hold cs (t .1))
 
 computed : AllComputed cases
-unfolding allBelow anyBelow oneOf twoOf threeOf doubleOf lengths takens lefts byteAt wordAt skipAt bitsAt dataAt countAt nameAt lengthAt limitedAt recordAt recordsAt bodyAt moduleAt refusedBy modulesFrom parse inCode fits target jumps calls callsIn onward flowAt marked mapFits isMachine row1 row2 row3 loads stores row8 row9 row10 row11 row12 row13 row14 row15 decodeOf followed call unitOf backTo returned isProcess saved restored written savedStore restoredMachine switched transferred performOf stepOf runN runRefusal runOf startRefusal startStore startMachine startOf deskOf gather entered forced member leastTest other wrong anyWrong clashTest acceptTest refuseTest
-computed = ((refl, refl, refl), ((refl, refl, refl), ((refl, refl, refl), ((refl, refl, refl), ((refl, refl, refl), ((refl, refl, refl), ((refl, refl, refl), ((refl, refl, refl), ((refl, refl, refl), ((refl, refl, refl), ((refl, refl, refl), ((refl, refl, refl), ((refl, refl, refl), ((refl, refl, refl), tt))))))))))))))
+unfolding allBelow anyBelow oneOf twoOf threeOf doubleOf lengths takens lefts byteAt wordAt skipAt bitsAt dataAt countAt nameAt lengthAt limitedAt recordAt recordsAt bodyAt moduleAt refusedBy modulesFrom parse inCode fits markOf depthOf promised isMark passed permits depthFlow target jumps calls callsIn onward flowAt marked mapFits isMachine row1 row2 row3 loads stores row8 row9 row10 row11 row12 row13 row14 row15 decodeOf followed call unitOf backTo returned isProcess saved restored written savedStore restoredMachine switched transferred performOf stepOf runN runRefusal runOf startRefusal startStore startMachine startOf deskOf gather entered forced member leastTest other wrong anyWrong clashTest acceptTest refuseTest
+computed = ((refl, refl, refl), ((refl, refl, refl), ((refl, refl, refl), ((refl, refl, refl), ((refl, refl, refl), ((refl, refl, refl), ((refl, refl, refl), ((refl, refl, refl), ((refl, refl, refl), ((refl, refl, refl), ((refl, refl, refl), ((refl, refl, refl), ((refl, refl, refl), ((refl, refl, refl), ((refl, refl, refl), ((refl, refl, refl), tt))))))))))))))))
 
 pub marked-cases : AllHold cases
 marked-cases = all-hold cases computed

@@ -1,12 +1,12 @@
--- What is right of a step's outcome: it goes on to a machine that stands, having taken and put what the action does, or it finds a stop
--- that is not spent. Assumes nothing.
-use mathlib.Core.Path.{_≡_, refl, _∙_}
+-- What is right of a step's outcome: it goes on to a machine that stands, having taken and put what the action does, in the same
+-- activation where its opcode is plain, or it finds a stop that is not spent. Assumes nothing.
+use mathlib.Core.Path.{_≡_, refl, ap, _∙_}
 use mathlib.Core.Bool.{Bool, true, false}
 use mathlib.Core.List.{List}
 use Prim.Native.Nat.{ℕ, _+_, _-_, _≤_}
 use native.Mathlib.Omega.{arith}
 use lib.ListN.{length, getD, set, length-set}
-use lib.Dec.{ltb}
+use lib.Dec.{T, ltb}
 use Rattle.mcode.specs.declared.Position.{Position}
 use Rattle.mcode.specs.declared.Machine.{Machine}
 use Rattle.mcode.specs.declared.Stop.{Stop}
@@ -14,12 +14,13 @@ use Rattle.mcode.specs.declared.Value.{Value}
 use Rattle.mcode.specs.Decode.{Action, OrJump, AndJump, Transfer}
 use Rattle.mcode.specs.Word.{pick}
 use Rattle.mcode.specs.Image.{basesOf}
+use Rattle.mcode.specs.Depths.{passed}
 use Rattle.mcode.specs.Machine.{State, state, Outcome, go, halt, depth, second, take1}
 use Rattle.mcode.specs.Step.{goes, storesTo, inStore, lowAt, hasPair, inPair, readsPair, writesPair, computed, savedStore}
-use Rattle.mcode.specs.Demands.{Left}
-use Rattle.mcode.proofs.Rows.{takenBy, leftBy}
+use Rattle.mcode.specs.Demands.{isPlain, Left}
+use Rattle.mcode.proofs.Rows.{takenBy, leftBy, ownOp}
 use Rattle.mcode.proofs.Faults.{Found, Real, is, fault}
-use Rattle.mcode.proofs.Shapes.{Here, P, R, D, M, Marks, Ok, Fine, take1-fine}
+use Rattle.mcode.proofs.Shapes.{Stays, Here, P, R, D, M, Mark, Marks, Ok, Counts, Fine, take1-fine}
 
 module _ (H : Here) (n : Position) where
   -- what the action did, with y the next state and n the next position
@@ -29,14 +30,21 @@ module _ (H : Here) (n : Position) where
     no-and : {t : Position} → Left (D H - 1) (H .x) y → depth (y .machine) ≡ D H - 1 → Did y (AndJump t)
     other : {b : ℕ} → y .store ≡ savedStore (getD (basesOf (P H)) (R H .unit) 0) n (second (M H)) (H .x) (D H - 2) → depth (y .machine) ≤ 16 → Did y (Transfer b)
 
+  -- the step to m stays in the activation, unless no opcode of the action is plain
+  abbrev pub Leads : Action → Machine → Type 0
+  Leads a m = (op : ℕ) → T (ownOp op a) → isPlain op ≡ true → Stays (P H) (H .lent .map) (M H) m
+
   pub data Right (a : Action) : Outcome → Type 0 where
-    on : {y : State} → Ok H y → Did y a → Right a (go y)
+    on : {y : State} → Ok H y → Did y a → Leads a (y .machine) → Right a (go y)
     off : {k : Stop} → Found k → Right a (halt k)
 
 module _ (H : Here) (n : Position) {a : Action} where
   -- to the machine m, which the row describes; with another store, other outputs
+  pub led : (m : Machine) (s o : List ℕ) → Counts H (takenBy a) (leftBy a) m → Leads H n a m → length s ≡ length (H .x .store) → length o ≡ length (H .x .outputs) → Right H n a (go (state m s o))
+  led m s o f l p q = on (record { good = f .good; sized = p ∙ H .kept .sized; outs = q ∙ H .kept .outs }) (rows (f .left) (f .deep)) l
+
   pub to-all : (m : Machine) (s o : List ℕ) → Fine H (takenBy a) (leftBy a) m → length s ≡ length (H .x .store) → length o ≡ length (H .x .outputs) → Right H n a (go (state m s o))
-  to-all m s o f p q = on (record { good = f .good; sized = p ∙ H .kept .sized; outs = q ∙ H .kept .outs }) (rows (f .left) (f .deep))
+  to-all m s o f = led m s o (f .counts) (λ op t p. f .stays)
 
   pub to : (m : Machine) → Fine H (takenBy a) (leftBy a) m → Right H n a (goes (H .x) m)
   to m f = to-all m (H .x .store) (H .x .outputs) f refl refl
@@ -77,20 +85,20 @@ module _ (H : Here) (n : Position) {a : Action} where
 -- 036 and 037 that do not jump
 module _ (H : Here) (n : Position) where
   fallen : D H - 1 + 1 ≤ 16 → Marks H (n .0) (D H - 1 + 1 - 1) → Fine H 1 0 (take1 n (M H))
-  fallen h f = let z : D H - 1 + 1 - 1 ≡ D H - 1 + 0 = omega arith in take1-fine H n (omega arith) (f ∙ z)
+  fallen h f = let z : D H - 1 + 1 - 1 ≡ D H - 1 + 0 = omega arith in take1-fine H n (omega arith) (f ∙ ap (passed (Mark H)) z)
 
   pub falls-or : (t : Position) → D H - 1 + 1 ≤ 16 → Marks H (n .0) (D H - 1 + 1 - 1) → Right H n (OrJump t) (goes (H .x) (take1 n (M H)))
-  falls-or t h f = let g = fallen h f in on (record { good = g .good; sized = H .kept .sized; outs = H .kept .outs }) (no-or (g .left) refl)
+  falls-or t h f = let g = fallen h f in on (record { good = g .counts .good; sized = H .kept .sized; outs = H .kept .outs }) (no-or (g .counts .left) refl) (λ op o p. g .stays)
 
   pub falls-and : (t : Position) → D H - 1 + 1 ≤ 16 → Marks H (n .0) (D H - 1 + 1 - 1) → Right H n (AndJump t) (goes (H .x) (take1 n (M H)))
-  falls-and t h f = let g = fallen h f in on (record { good = g .good; sized = H .kept .sized; outs = H .kept .outs }) (no-and (g .left) refl)
+  falls-and t h f = let g = fallen h f in on (record { good = g .counts .good; sized = H .kept .sized; outs = H .kept .outs }) (no-and (g .counts .left) refl) (λ op o p. g .stays)
 
 -- what is right, of a known outcome
 module _ (H : Here) (n : Position) (a : Action) where
   abbrev pub Says : Outcome → Type 0
-  Says (go y) = Ok H y × Did H n y a
+  Says (go y) = Ok H y × Did H n y a × Leads H n a (y .machine)
   Says (halt k) = Found k
 
   pub says : {o : Outcome} → Right H n a o → Says o
-  says (on k d) = (k, d)
+  says (on k d l) = (k, d, l)
   says (off f) = f

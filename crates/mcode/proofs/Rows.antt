@@ -135,7 +135,7 @@ module _ (o : ℕ → ℕ) (r : Registers) (bases : List ℕ) where
   unfolding lengths lefts left-test either decodeOf row1 row2 row3 loads stores row8 row9 row10 row11 row12 row13 row14 row15
   left-row op h l = eqb→eq (getD lefts op 0) _ (used (getD lengths op 0) _ l (at left-test lefts tt op h))
 
--- 036, 037 and 256 are the only opcodes of their actions
+-- 036, 037, 256 and 354 are the only opcodes of their actions, and calls are those from 355 on
 abbrev pub ownOp : ℕ → Action → Bool
 ownOp op (Put v) = true
 ownOp op (AddTop b) = true
@@ -161,10 +161,10 @@ ownOp op Write = true
 ownOp op Trap = true
 ownOp op (Enter b) = true
 ownOp op (Follow b) = true
-ownOp op (Call n) = true
-ownOp op (CallLinked n) = true
-ownOp op (CallExternal m n) = true
-ownOp op Return = true
+ownOp op (Call n) = leb 0o355 op
+ownOp op (CallLinked n) = leb 0o355 op
+ownOp op (CallExternal m n) = leb 0o355 op
+ownOp op Return = eqb op 0o354
 ownOp op (Transfer b) = eqb op 0o256
 ownOp op (PutPair high low) = true
 ownOp op (LoadPair a) = true

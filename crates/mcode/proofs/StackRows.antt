@@ -8,6 +8,7 @@ use lib.ListN.{getD}
 use lib.Dec.{T, eqb→eq}
 use Rattle.mcode.specs.Opcode.{lengths, takens, lefts}
 use Rattle.mcode.specs.Image.{parse}
+use Rattle.mcode.specs.Layout.{Told}
 use Rattle.mcode.specs.Depths.{mapFits}
 use Rattle.mcode.specs.Machine.{State, go, position, depth}
 use Rattle.mcode.specs.Decode.{Action}
@@ -15,17 +16,17 @@ use Rattle.mcode.specs.Step.{stepOf}
 use Rattle.mcode.specs.Run.{lentTo}
 use Rattle.mcode.specs.Demands.{opcodeAt, Accounts, by-row, falls, changes}
 use Rattle.mcode.proofs.Rows.{takenBy, leftBy, ownOp, own-row}
-use Rattle.mcode.proofs.Shapes.{Kept, Here}
-use Rattle.mcode.proofs.Keeps.{opcode, decoded, decodes, step-goes}
+use Rattle.mcode.proofs.Shapes.{Kept, Here, opcode}
+use Rattle.mcode.proofs.Keeps.{decoded, decodes, step-goes}
 use Rattle.mcode.proofs.Right.{Did, rows, no-or, no-and, other}
 
 long-transfer : getD lengths 0o256 0 ≡ 2
 unfolding lengths
 long-transfer = refl
 
-module _ (image map inputs : List ℕ) (fit : mapFits image (parse image .program) map ≡ true) (w : ℕ) (x y : State) (k : Kept (parse image .program) map w x) where
+module _ (image map inputs : List ℕ) (told : Told image (parse image .program)) (fit : mapFits image (parse image .program) map ≡ true) (w : ℕ) (x y : State) (k : Kept (parse image .program) map w x) where
   abbrev H : Here
-  H = record { lent = lentTo image map inputs; fit = fit; w = w; x = x; kept = k }
+  H = record { lent = lentTo image map inputs; told = told; fit = fit; w = w; x = x; kept = k }
 
   abbrev op : ℕ
   op = opcodeAt image (x .machine)

@@ -16,7 +16,7 @@ use Rattle.mcode.specs.declared.Flow.the-variants.{Fault, Ends, To, Fork
 use Rattle.mcode.specs.declared.Program.{Program}
 use Rattle.mcode.specs.Word.{pick, and, or, allBelow, anyBelow, byte}
 use Rattle.mcode.specs.Image.{parse, moduleOf, inCode}
-use Rattle.mcode.specs.Depths.{Analysis, mark, Marked, Follows, Fits, Fewest, NoneFits, fits, depths, marksOf, mapFits, KeptPast, Accepted, NoDepths}
+use Rattle.mcode.specs.Depths.{Analysis, mark, Marked, Follows, Fits, Fewest, NoneFits, fits, unmarked, depths, marksOf, mapFits, KeptPast, Accepted, NoDepths}
 use Rattle.mcode.specs.Run.{Loads}
 use Rattle.mcode.proofs.Tests.{and-both, or-either, or-second, not-is, all-at, any-at, inside, fits-says}
 
@@ -235,13 +235,13 @@ accepts image map e t =
             (all-at (P .count) (λ k. fits (depths image P (moduleOf P k)) (marksOf map (moduleOf P k))) x k l)
             (all-at (P .count) (λ k. leastTest (depths image P (moduleOf P k)) (marksOf map (moduleOf P k))) c k l);
         outside = λ i l o.
-            eqb-true _ _ (or-second (inCode P i) (eqb (byte map i) 0xff) (λ q. false≢true (sym o ∙ q))
-            (all-at (length image) (λ i. or (inCode P i) (eqb (byte map i) 0xff)) y i l));
+            eqb-true _ _ (or-second (inCode P i) (eqb (byte map i) unmarked) (λ q. false≢true (sym o ∙ q))
+            (all-at (length image) (λ i. or (inCode P i) (eqb (byte map i) unmarked)) y i l));
         kept = kept-short image (replicate (length image) 0) map (length-replicate (length image) 0) (eqb-true _ _ a);
       },
     ))
 
-pub refuses-8 : (image : List ℕ) → parse image .refusal ≡ 0 → refuseTest image ≡ true → Loads image (replicate (length image) 0) 8 (replicate (length image) 0xff)
+pub refuses-8 : (image : List ℕ) → parse image .refusal ≡ 0 → refuseTest image ≡ true → Loads image (replicate (length image) 0) 8 (replicate (length image) unmarked)
 unfolding refuseTest
 refuses-8 image e t =
     let P = parse image .program in
@@ -253,7 +253,7 @@ refuses-8 image e t =
         unfit = k;
         loaded = l;
         none = clash (depths image P (moduleOf P k)) c;
-        blank = λ i h. getD-replicate (length image) i 0xff 0 h;
-        kept = kept-short image (replicate (length image) 0) (replicate (length image) 0xff) (length-replicate (length image) 0) (length-replicate (length image) 0xff);
+        blank = λ i h. getD-replicate (length image) i unmarked 0 h;
+        kept = kept-short image (replicate (length image) 0) (replicate (length image) unmarked) (length-replicate (length image) 0) (length-replicate (length image) unmarked);
       },
     ))

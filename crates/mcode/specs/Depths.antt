@@ -1,8 +1,8 @@
 -- Depths: what a fitting assignment of marks is, for any analysis of one module's code; then the paper's rules as one analysis.
--- A mark is a number, and only this file knows what it encodes: today the depth itself, and FF hex where a position is unmarked.
-use Prim.Native.Nat.{ℕ, zero, suc, _+_, _-_, _*_, _≤_, _<_}
+-- A mark is a number, and only this file knows what it encodes: a depth and a result count, and FF hex where a position is unmarked.
+use Prim.Native.Nat.{ℕ, zero, suc, _+_, _-_, _*_, _/_, _%_, _≤_, _<_}
 use mathlib.Core.Path.{_≡_}
-use mathlib.Core.Bool.{Bool, true, false}
+use mathlib.Core.Bool.{Bool, true, false, not}
 use mathlib.Core.List.{List, _++_}
 use lib.ListN.{length, getD, take, drop, replicate}
 use lib.Dec.{ltb, leb, eqb}
@@ -70,7 +70,35 @@ fits A m =
     (and (allBelow (A .entries) (λ i. eqb (mark A m (A .entryAt i)) (A .entryMark i)))
     (allBelow (A .size) (λ p. or (eqb (mark A m p) (A .none)) (followed A m (A .flow p (mark A m p))))))
 
--- ---- the rules of the paper
+-- ---- marks
+
+-- "FF stays unmarked."
+abbrev pub unmarked : ℕ
+unmarked = 0xff
+
+-- "A map byte becomes depth + 17 x results."
+unfoldable pub markOf : ℕ → ℕ → ℕ
+markOf depth results = depth + 17 * results
+
+unfoldable pub depthOf : ℕ → ℕ
+depthOf k = k % 17
+
+unfoldable pub promised : ℕ → ℕ
+promised k = k / 17
+
+-- "a depth 0 to 16", "a result count of 0 to 4"
+unfoldable pub isMark : ℕ → Bool
+isMark k = leb k 84
+
+-- what a successor has at depth e: "a successor has its predecessor's" result count
+unfoldable pub passed : ℕ → ℕ → ℕ
+passed k e = markOf e (promised k)
+
+-- "RTN needs a depth equal to it."
+unfoldable pub permits : ℕ → ℕ → Bool
+permits k op = or (not (eqb op 0o354)) (eqb (depthOf k) (promised k))
+
+-- ---- the rules of the paper, which speak of depths
 
 -- "Jumps, from the operand's first byte", which is at s and is b; c is the byte after it. Sums are taken modulo 65,536: one below 0
 -- is then 32,768 or more, which lies outside of any code, as one at or past the code's length does.
@@ -124,34 +152,51 @@ onward image program m p op b c n e =
     (calls image m (op - 0o360) n e))))))
 
 -- what follows position p of module m at depth d: "a marked position holds a listed opcode whose operands lie in the code, takes
--- no more than the depth, leaves at most 16", and a depth is 0 to 16
-unfoldable pub flowAt : List ℕ → Program → Module → ℕ → ℕ → Flow
-flowAt image program m p d =
+-- no more than the depth, leaves at most 16"
+unfoldable pub depthFlow : List ℕ → Program → Module → ℕ → ℕ → Flow
+depthFlow image program m p d =
     let op = codeByte image m p in
     let size = getD lengths op 0 in
     let taken = getD takens op 0 in
     let e = d - taken + getD lefts op 0 in
-    pick (ltb 16 d) Fault
-    (pick (eqb size 0) Fault
+    pick (eqb size 0) Fault
     (pick (ltb (m .length) (p + size)) Fault
     (pick (ltb d taken) Fault
     (pick (ltb 16 e) Fault
-    (onward image program m p op (codeByte image m (p + 1)) (codeByte image m (p + 2)) (p + size) e)))))
+    (onward image program m p op (codeByte image m (p + 1)) (codeByte image m (p + 2)) (p + size) e))))
 
--- the depths of one module's code: "every entry with its parameter count"
+-- the same successors, with the marks that f makes of their depths
+abbrev pub carry : (ℕ → ℕ) → Flow → Flow
+carry f Fault = Fault
+carry f Ends = Ends
+carry f (To q d) = To q (f d)
+carry f (Fork q d r e) = Fork q (f d) r (f e)
+
+-- what follows position p of module m with mark k
+unfoldable pub flowAt : List ℕ → Program → Module → ℕ → ℕ → Flow
+flowAt image program m p k =
+    pick (isMark k)
+    (pick (permits k (codeByte image m p)) (carry (passed k) (depthFlow image program m p (depthOf k))) Fault)
+    Fault
+
+-- the marks of one module's code: "every entry with its parameter count", "an entry has its procedure's" result count
 abbrev pub depths : List ℕ → Program → Module → Analysis
 depths image program m = record {
   size = m .length;
-  none = 0xff;
+  none = unmarked;
   entries = procCount m;
   entryAt = entryOf image m;
-  entryMark = paramsOf image m;
+  entryMark = λ i. markOf (paramsOf image m i) (resultsOf image m i);
   flow = flowAt image program m;
 }
 
--- the map says that position q of module m has depth d: the mark lies in the code, and is no FF
+-- the map's mark of position q of module m
+abbrev pub markAt : List ℕ → Module → ℕ → ℕ
+markAt map m q = byte map (m .code + q)
+
+-- the map marks position q of module m, which lies in the code, with depth d. "A landing still compares the depth only."
 unfoldable pub marked : List ℕ → Module → ℕ → ℕ → Bool
-marked map m q d = and (ltb q (m .length)) (and (leb d 16) (eqb (byte map (m .code + q)) d))
+marked map m q d = and (ltb q (m .length)) (and (isMark (markAt map m q)) (eqb (depthOf (markAt map m q)) d))
 
 -- module m's part of the map: "one byte per image byte"
 abbrev pub marksOf : List ℕ → Module → List ℕ
@@ -161,7 +206,7 @@ marksOf map m = take (m .length) (drop (m .code) map)
 unfoldable pub mapFits : List ℕ → Program → List ℕ → Bool
 mapFits image program map =
     and (allBelow (program .count) (λ k. fits (depths image program (moduleOf program k)) (marksOf map (moduleOf program k))))
-    (allBelow (length image) (λ i. or (inCode program i) (eqb (byte map i) 0xff)))
+    (allBelow (length image) (λ i. or (inCode program i) (eqb (byte map i) unmarked)))
 
 -- "Map bytes past the image stay unchanged."
 pub record KeptPast (image before after : List ℕ) : Type 0 where
@@ -171,7 +216,7 @@ pub record KeptPast (image before after : List ℕ) : Type 0 where
 -- load accepts: each module's part of the map is the fewest, and the rest of the image has FF
 pub record Accepted (image : List ℕ) (program : Program) (before after : List ℕ) : Type 0 where
   pub fewest : (k : ℕ) → k < program .count → Fewest (depths image program (moduleOf program k)) (marksOf after (moduleOf program k))
-  pub outside : (i : ℕ) → i < length image → inCode program i ≡ false → byte after i ≡ 0xff
+  pub outside : (i : ℕ) → i < length image → inCode program i ≡ false → byte after i ≡ unmarked
   pub kept : KeptPast image before after
 
 -- load refuses with 8: some module has no fitting assignment, and the map is "FF over the image's length"
@@ -179,5 +224,5 @@ pub record NoDepths (image : List ℕ) (program : Program) (before after : List 
   pub unfit : ℕ
   pub loaded : unfit < program .count
   pub none : NoneFits (depths image program (moduleOf program unfit))
-  pub blank : (i : ℕ) → i < length image → byte after i ≡ 0xff
+  pub blank : (i : ℕ) → i < length image → byte after i ≡ unmarked
   pub kept : KeptPast image before after

@@ -6,7 +6,7 @@
 
 use super::rng::Rng;
 use crate::assemble::Source;
-use crate::image::Procedure;
+use crate::image::{Procedure, ONLY_PROCEDURE};
 use crate::opcode::{self, *};
 
 /// Words 64 to 79 name processes for TRANSFER: no module lies there.
@@ -33,6 +33,17 @@ pub struct Shape {
 
 /// A random program.
 pub fn program(rng: &mut Rng, shape: &Shape) -> Vec<Source> {
+    write_program(rng, shape, None)
+}
+
+/// A random program in which one procedure returns with another number of words
+/// than its results. All else fits, so that A.2 alone refuses it.
+pub fn program_with_wrong_return(rng: &mut Rng, shape: &Shape) -> Vec<Source> {
+    let wrong = (rng.below(shape.modules), rng.below(shape.procedures));
+    write_program(rng, shape, Some(wrong))
+}
+
+fn write_program(rng: &mut Rng, shape: &Shape, wrong: Option<(usize, usize)>) -> Vec<Source> {
     let signatures: Vec<Vec<Procedure>> = (0..shape.modules)
         .map(|module| {
             (0..shape.procedures)
@@ -41,7 +52,10 @@ pub fn program(rng: &mut Rng, shape: &Shape) -> Vec<Source> {
         })
         .collect();
     (0..shape.modules)
-        .map(|module| write_module(rng, shape, &signatures, module))
+        .map(|module| {
+            let wrong = wrong.filter(|wrong| wrong.0 == module);
+            write_module(rng, shape, &signatures, module, wrong.map(|wrong| wrong.1))
+        })
         .collect()
 }
 
@@ -64,6 +78,7 @@ fn write_module(
     shape: &Shape,
     signatures: &[Vec<Procedure>],
     module: usize,
+    wrong: Option<usize>,
 ) -> Source {
     let mut code = Vec::new();
     let mut procedures = signatures[module].clone();
@@ -71,11 +86,17 @@ fn write_module(
     rng.shuffle(&mut order);
     for number in order {
         procedures[number].entry = code.len() as u16;
+        let results = procedures[number].results;
+        let returned = match wrong {
+            Some(wrong) if wrong == number => other_depth(rng, results),
+            _ => results,
+        };
         let mut writer = Writer {
             rng,
             signatures,
             module,
             procedure: number,
+            returned,
             careful: shape.careful,
             code: Vec::new(),
             depth: procedures[number].parameters,
@@ -87,20 +108,23 @@ fn write_module(
         }
         code.append(&mut writer.code);
     }
-    let only_default = procedures
-        == [Procedure {
-            entry: 0,
-            parameters: 0,
-            results: 0,
-        }];
-    if only_default && rng.once_in(2) {
+    if procedures == [ONLY_PROCEDURE] && rng.once_in(2) {
         procedures.clear();
     }
     Source {
         data_size: (rng.below(shape.data + 1) + 48 * usize::from(shape.careful)) as u16,
         procedures,
-        name: rng.once_in(3).then(|| rng.next().to_be_bytes()),
+        name: rng.once_in(3).then(|| rng.bits().to_be_bytes()),
         code,
+    }
+}
+
+/// A depth that is not the results: mostly one word too many.
+fn other_depth(rng: &mut Rng, results: u8) -> u8 {
+    match rng.below(4) {
+        0 if results > 0 => rng.below(results.into()) as u8,
+        1 => rng.within(usize::from(results) + 2, 16) as u8,
+        _ => results + 1,
     }
 }
 
@@ -110,6 +134,9 @@ struct Writer<'a> {
     signatures: &'a [Vec<Procedure>],
     module: usize,
     procedure: usize,
+    /// The depth at which the procedure returns: its results, unless it is to be
+    /// wrong.
+    returned: u8,
     careful: bool,
     code: Vec<u8>,
     depth: u8,
@@ -133,16 +160,14 @@ impl Writer<'_> {
                 self.emit(&[0o336]);
                 self.code.extend([JPB, 2]);
             }
-            // A wrong number of results: the return traps.
-            2 if !self.careful => {
-                self.set_depth(5);
-                self.emit(&[RTN]);
-            }
-            _ => {
-                self.set_depth(self.signatures[self.module][self.procedure].results);
-                self.emit(&[RTN]);
-            }
+            _ => self.give_back(),
         }
+    }
+
+    /// "A return must carry what the procedure promised."
+    fn give_back(&mut self) {
+        self.set_depth(self.returned);
+        self.emit(&[RTN]);
     }
 
     /// Each of these opcodes at least once.
@@ -152,7 +177,7 @@ impl Writer<'_> {
         for opcode in opcodes {
             self.instruction(opcode, 0);
         }
-        self.emit(&[RTN]);
+        self.give_back();
     }
 
     fn statement(&mut self, fuel: u32) {
@@ -568,10 +593,10 @@ impl Writer<'_> {
         let start = self.code.len();
         if opcode == TRAP {
             self.put();
+            self.emit(&[TRAP]);
         } else {
-            self.set_depth(self.signatures[self.module][self.procedure].results);
+            self.give_back();
         }
-        self.emit(&[opcode]);
         self.depth = depth;
         let block = self.code.split_off(start);
         self.jump_with(JPFC, &block);
@@ -645,7 +670,7 @@ pub fn some_word(rng: &mut Rng) -> u16 {
 /// Numbers of 32 bits at which a word carries or borrows, and others.
 pub fn some_double(rng: &mut Rng) -> u32 {
     match rng.below(4) {
-        0 => rng.next() as u32,
+        0 => rng.bits() as u32,
         1 => u32::from(some_word(rng)),
         2 => u32::from(some_word(rng)) << 16 | u32::from(some_word(rng)),
         _ => rng.pick(&[

@@ -7,11 +7,13 @@ mod state;
 use crate::api;
 use crate::assemble::{encode, Source};
 use crate::case::{Case, CaseRun};
+use crate::depths::{Mark, MOST, MOST_RESULTS, UNMARKED};
+use crate::image::{Procedure, ONLY_PROCEDURE};
 use crate::machine::Machine;
-use crate::opcode::{self, CL, DADD, DSUB, LED, LGD, LID, PAIRS, RTN, SED, SGD, TRA};
-use code::{program, some_word, Shape};
+use crate::opcode::{self, CL, DADD, DSUB, JP, LED, LGD, LID, PAIRS, RTN, SED, SGD, TRA, TRAP};
+use code::{program, program_with_wrong_return, some_word, Shape};
 use rng::Rng;
-use state::World;
+use state::{Place, World};
 
 /// How large cases are, and how many runs they have.
 pub struct Scale {
@@ -74,7 +76,9 @@ pub fn case(scale: &Scale, seed: u64, index: u64) -> Case {
     let rng = &mut Rng::for_case(seed, index);
     let round = index / 32;
     let mut case = match index % 32 {
-        0..=8 => program_case(rng, scale),
+        0..=6 => program_case(rng, scale),
+        7 => wrong_return_case(rng, scale),
+        8 => shared_code_case(rng, scale),
         9 => {
             let opcode = any_double(rng);
             state_case(rng, scale, Some(opcode))
@@ -86,8 +90,8 @@ pub fn case(scale: &Scale, seed: u64, index: u64) -> Case {
         23 => double_depth_case(rng, scale),
         24..=25 => header_case(rng, scale),
         26 => depth_case(rng, scale),
-        28 if !round.is_multiple_of(2) => lent_double_case(rng),
-        27..=28 => broken_map_case(rng, scale),
+        27 => broken_map_case(rng, scale),
+        28 => lent_marks_case(rng),
         29 => broken_machine_case(rng, scale),
         31 if round.is_multiple_of(scale.large_rounds) => {
             large_case(rng, round / scale.large_rounds)
@@ -207,6 +211,60 @@ fn program_case(rng: &mut Rng, scale: &Scale) -> Case {
     case
 }
 
+/// A program with one return that does not carry what the procedure promised.
+fn wrong_return_case(rng: &mut Rng, scale: &Scale) -> Case {
+    let shape = any_shape(rng, scale);
+    let image = encode(&program_with_wrong_return(rng, &shape));
+    let mut case = case_of(rng, image, 1000);
+    case.runs = vec![plain_run(rng, 10)];
+    case
+}
+
+/// An accepted program, and one more procedure that shares code with another.
+fn shared_code_case(rng: &mut Rng, scale: &Scale) -> Case {
+    let shape = any_shape(rng, scale);
+    let mut modules = program(rng, &shape);
+    let world = World::of(rng, &shape, &modules);
+    let place = world.place_to_share(rng);
+    share(rng, &mut modules[usize::from(place.module)], place);
+    let mut case = case_of(rng, encode(&modules), world.words);
+    case.runs = plain_runs(rng, scale);
+    case
+}
+
+/// One more procedure, which begins at the place or jumps to it. It mostly has
+/// other results: then A.2 alone refuses the code.
+fn share(rng: &mut Rng, module: &mut Source, place: Place) {
+    let Mark { depth, results } = place.mark;
+    let mut procedure = Procedure {
+        entry: place.position,
+        parameters: depth,
+        results: match rng.below(4) {
+            0 => results,
+            _ => other_results(rng, results),
+        },
+    };
+    if rng.once_in(2) {
+        procedure.entry = module.code.len() as u16;
+        procedure.parameters = rng.within(0, depth.into()) as u8;
+        let missing = depth - procedure.parameters;
+        module.code.extend(literals(rng, missing.into()));
+        let operand = module.code.len() as u16 + 1;
+        let [high, low] = place.position.wrapping_sub(operand).to_be_bytes();
+        module.code.extend([JP, high, low]);
+    }
+    if module.procedures.is_empty() {
+        module.procedures.push(ONLY_PROCEDURE);
+    }
+    module.procedures.push(procedure);
+}
+
+/// Another result count.
+fn other_results(rng: &mut Rng, results: u8) -> u8 {
+    let more = rng.within(1, MOST_RESULTS.into()) as u8;
+    (results + more) % (MOST_RESULTS + 1)
+}
+
 /// Single steps, or a few, from machines at any marked position.
 fn state_case(rng: &mut Rng, scale: &Scale, opcode: Option<u8>) -> Case {
     let shape = opcode_shape(rng, scale, scale.state_opcodes, opcode);
@@ -265,11 +323,7 @@ fn header_case(rng: &mut Rng, scale: &Scale) -> Case {
         }
         2..=5 => {
             if module.procedures.is_empty() {
-                module.procedures.push(crate::image::Procedure {
-                    entry: 0,
-                    parameters: 0,
-                    results: 0,
-                });
+                module.procedures.push(ONLY_PROCEDURE);
             }
             let number = rng.below(module.procedures.len());
             let procedure = &mut module.procedures[number];
@@ -314,8 +368,15 @@ fn depth_case(rng: &mut Rng, scale: &Scale) -> Case {
                     _ => rng.pick(&FRIENDLY),
                 })
                 .collect();
-            code.push(0o354);
-            Source::plain(&code)
+            code.push(rng.pick(&[RTN, RTN, TRAP]));
+            let procedure = Procedure {
+                results: rng.below(3) as u8,
+                ..ONLY_PROCEDURE
+            };
+            Source {
+                procedures: vec![procedure],
+                ..Source::plain(&code)
+            }
         })
         .collect();
     let mut case = case_of(rng, encode(&modules), 400);
@@ -327,58 +388,104 @@ fn depth_case(rng: &mut Rng, scale: &Scale) -> Case {
 fn double_depth_case(rng: &mut Rng, scale: &Scale) -> Case {
     let count = rng.within(1, 3);
     let mut modules = vec![Source::plain(&[RTN]); count];
-    modules[rng.below(count)] = Source::plain(&double_code(rng, count));
+    modules[rng.below(count)] = Source::plain(&double_code(rng, count, 0));
     let mut case = case_of(rng, encode(&modules), 400);
     case.runs = plain_runs(rng, scale);
     case
 }
 
-/// The same behind an RTN, where load marks nothing, under a map that marks
-/// it. The second run's machine stands there.
-fn lent_double_case(rng: &mut Rng) -> Case {
+/// Code under a map that marks it with one result count, and then with another.
+/// Mostly it stands behind an RTN: no entry reaches it, so that it may have any
+/// count, and another one all along if it does not return. The machines stand
+/// at its beginning.
+fn lent_marks_case(rng: &mut Rng) -> Case {
     let count = rng.within(1, 2);
     let mut modules = vec![Source::plain(&[RTN]); count];
-    let code = double_code(rng, count);
+    let reached = rng.once_in(4);
+    let results = match rng.below(4) {
+        _ if reached => 0,
+        // Bytes 85 to 254, which never fit, though they agree with one another.
+        0 => rng.within(5, 14) as u8,
+        _ => rng.below(5) as u8,
+    };
+    let code = if rng.once_in(2) {
+        double_code(rng, count, results)
+    } else {
+        let depth = rng.below(7);
+        [literals(rng, depth), ending(rng, depth, results.into())].concat()
+    };
+    if reached {
+        modules[0].code.clear();
+    }
+    let begin = modules[0].code.len() as u16;
     modules[0].code.extend(&code);
     let mut case = case_of(rng, encode(&modules), 400);
     let (_, mut machine) = api::start(&case.image, &mut [0; 400]);
-    machine.pc = 1;
-    let mut run = plain_run(rng, 30);
-    run.machine = Some(machine);
-    // The first module's code begins at byte 4, this one a byte later.
-    run.map_patches = marks_in_a_row(&code)
-        .into_iter()
-        .map(|(position, depth)| (5 + position as u16, depth))
-        .collect();
-    if rng.once_in(3) {
-        let altered = rng.below(run.map_patches.len());
-        run.map_patches[altered].1 ^= 1;
+    machine.pc = begin;
+    case.runs = vec![plain_run(rng, 5)];
+    for results in [results, other_results(rng, results)] {
+        let mut run = plain_run(rng, 30);
+        run.machine = Some(machine);
+        run.map_patches = lent_marks(rng, &code, results, 4 + begin);
+        case.runs.push(run);
     }
-    case.runs = vec![plain_run(rng, 5), run];
     case
 }
 
+/// The patches that mark a code which begins at this image byte, one in three
+/// times with an altered one.
+fn lent_marks(rng: &mut Rng, code: &[u8], results: u8, begin: u16) -> Vec<(u16, u8)> {
+    let marks = marks_in_a_row(code, results);
+    let mut patches: Vec<(u16, u8)> = marks
+        .iter()
+        .map(|&(position, mark)| (begin + position as u16, mark.encode()))
+        .collect();
+    if rng.once_in(3) {
+        let altered = rng.below(marks.len());
+        patches[altered].1 = altered_byte(rng, marks[altered].1);
+    }
+    patches
+}
+
+/// A byte that is not the mark's: another depth, another result count, or none
+/// of a map that fits.
+fn altered_byte(rng: &mut Rng, mark: Mark) -> u8 {
+    let altered = match rng.below(3) {
+        0 => Mark {
+            depth: (mark.depth + rng.pick(&[1, MOST])) % (MOST + 1),
+            ..mark
+        },
+        1 => Mark {
+            results: other_results(rng, mark.results),
+            ..mark
+        },
+        _ => return rng.within(85, 254) as u8,
+    };
+    altered.encode()
+}
+
 /// The positions of a code without jumps, with the depths of their words.
-fn marks_in_a_row(code: &[u8]) -> Vec<(usize, u8)> {
+fn marks_in_a_row(code: &[u8], results: u8) -> Vec<(usize, Mark)> {
     let mut marks = Vec::new();
     let (mut position, mut depth) = (0, 0);
     while position < code.len() {
-        marks.push((position, depth));
+        marks.push((position, Mark { depth, results }));
         let row = opcode::row(code[position]);
         position += usize::from(row.length);
-        depth = (depth + row.left).saturating_sub(row.taken);
+        depth = (depth + row.left).saturating_sub(row.taken).min(MOST);
     }
     marks
 }
 
-/// Literals, and an instruction of double words that is narrow in some way.
-fn double_code(rng: &mut Rng, modules: usize) -> Vec<u8> {
+/// Literals, and an instruction of double words that is narrow in some way, for
+/// a procedure with so many results.
+fn double_code(rng: &mut Rng, modules: usize, results: u8) -> Vec<u8> {
     let opcode = match rng.below(4) {
         0 => return cut_literal(rng),
         1 => rng.pick(&[LED, SED]),
         _ => any_double(rng),
     };
-    double_near_limits(rng, opcode, modules)
+    double_near_limits(rng, opcode, modules, results)
 }
 
 /// So many of 000–017.
@@ -397,7 +504,7 @@ fn cut_literal(rng: &mut Rng) -> Vec<u8> {
 
 /// An instruction with enough words below it or one too few, with room above
 /// or too little, and with a module that exists or not.
-fn double_near_limits(rng: &mut Rng, opcode: u8, modules: usize) -> Vec<u8> {
+fn double_near_limits(rng: &mut Rng, opcode: u8, modules: usize, results: u8) -> Vec<u8> {
     let row = opcode::row(opcode);
     let least = usize::from(row.taken);
     let depth = rng.pick(&[least.saturating_sub(1), least, least, 14, 15, 16]);
@@ -407,7 +514,16 @@ fn double_near_limits(rng: &mut Rng, opcode: u8, modules: usize) -> Vec<u8> {
         code.push(rng.pick(&[0, modules - 1, modules, 255]) as u8);
     }
     code.resize_with(depth + usize::from(row.length), || rng.byte());
-    code.push(RTN);
+    let depth = (depth + usize::from(row.left)).saturating_sub(least);
+    code.extend(ending(rng, depth, results.into()));
+    code
+}
+
+/// Behind so many words: a return, with the words that are missing put before
+/// it, or a TRAP where there are too many.
+fn ending(rng: &mut Rng, depth: usize, results: usize) -> Vec<u8> {
+    let mut code = literals(rng, results.saturating_sub(depth));
+    code.push(if depth > results { TRAP } else { RTN });
     code
 }
 
@@ -418,14 +534,7 @@ fn broken_map_case(rng: &mut Rng, scale: &Scale) -> Case {
     let mut case = case_of(rng, world.image.clone(), world.words);
     for _ in 0..scale.alterations {
         let mut run = plain_run(rng, 5);
-        let offset = rng.below(world.image.len());
-        let byte = match rng.below(4) {
-            0 => rng.byte(),
-            1 => 0xFF,
-            2 => rng.pick(&[0, 1, 16, 17, 254]),
-            // One that may fit where it was unmarked.
-            _ => rng.below(4) as u8,
-        };
+        let (offset, byte) = alteration(rng, &world);
         run.map_patches.push((offset as u16, byte));
         case.runs.push(run);
         let mut good = plain_run(rng, 3);
@@ -433,6 +542,29 @@ fn broken_map_case(rng: &mut Rng, scale: &Scale) -> Case {
         case.runs.push(good);
     }
     case
+}
+
+/// An offset in a program's map, and another byte for it.
+fn alteration(rng: &mut Rng, world: &World) -> (usize, u8) {
+    let offset = rng.below(world.image.len());
+    match rng.below(6) {
+        0 => (offset, rng.byte()),
+        1 => (offset, UNMARKED),
+        2 => (offset, rng.pick(&[0, 1, 16, 17, 84, 85, 254])),
+        // One that may fit where it was unmarked, before the next mark.
+        3 => {
+            let next = world.map[offset..].iter().copied().find_map(Mark::decode);
+            let mark = Mark {
+                depth: rng.below(4) as u8,
+                results: next.map_or(0, |mark| mark.results),
+            };
+            (offset, mark.encode())
+        }
+        _ => {
+            let (offset, mark) = world.any_mark(rng);
+            (offset, altered_byte(rng, mark))
+        }
+    }
 }
 
 /// Machines that are none, for one reason or more.

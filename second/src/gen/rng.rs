@@ -7,11 +7,11 @@ impl Rng {
     /// The numbers of one case among many of a seed.
     pub fn for_case(seed: u64, index: u64) -> Rng {
         let mut rng = Rng(seed);
-        let mixed = rng.next() ^ index.wrapping_mul(0xD134_2543_DE82_EF95);
+        let mixed = rng.bits() ^ index.wrapping_mul(0xD134_2543_DE82_EF95);
         Rng(mixed)
     }
 
-    pub fn next(&mut self) -> u64 {
+    pub fn bits(&mut self) -> u64 {
         self.0 = self.0.wrapping_add(0x9E37_79B9_7F4A_7C15);
         let mut z = self.0;
         z = (z ^ z >> 30).wrapping_mul(0xBF58_476D_1CE4_E5B9);
@@ -21,7 +21,7 @@ impl Rng {
 
     /// A number below the bound, which is not 0.
     pub fn below(&mut self, bound: usize) -> usize {
-        (self.next() % bound as u64) as usize
+        (self.bits() % bound as u64) as usize
     }
 
     /// A number from the first to the last.
@@ -30,11 +30,11 @@ impl Rng {
     }
 
     pub fn byte(&mut self) -> u8 {
-        self.next() as u8
+        self.bits() as u8
     }
 
     pub fn word(&mut self) -> u16 {
-        self.next() as u16
+        self.bits() as u16
     }
 
     /// True once in `of` times.

@@ -4,9 +4,9 @@
 use super::code::{program, some_double, some_word, Shape, PROCESS_NAMES, PROCESS_NAME_COUNT};
 use super::rng::Rng;
 use crate::api;
-use crate::assemble::encode;
+use crate::assemble::{encode, Source};
 use crate::case::CaseRun;
-use crate::depths::UNMARKED;
+use crate::depths::Mark;
 use crate::image::{parse, Program};
 use crate::machine::Machine;
 use crate::opcode::{self, *};
@@ -23,18 +23,24 @@ pub struct World {
 
 /// A marked position.
 #[derive(Clone, Copy)]
-struct Place {
-    module: u8,
-    position: u16,
-    depth: u8,
+pub struct Place {
+    pub module: u8,
+    pub position: u16,
+    pub mark: Mark,
     opcode: u8,
 }
 
 impl World {
-    /// A random program. Panics if load does not accept it: the generator
-    /// would be wrong.
+    /// A random program.
     pub fn new(rng: &mut Rng, shape: &Shape) -> World {
-        let image = encode(&program(rng, shape));
+        let modules = program(rng, shape);
+        World::of(rng, shape, &modules)
+    }
+
+    /// A program of this shape. Panics if load does not accept it: the
+    /// generator would be wrong.
+    pub fn of(rng: &mut Rng, shape: &Shape, modules: &[Source]) -> World {
+        let image = encode(modules);
         let mut map = vec![0; image.len()];
         let number = api::load(&image, &mut map);
         assert_eq!(number, 0, "the generator wrote a program that load refuses");
@@ -87,6 +93,27 @@ impl World {
     /// The least store that start accepts.
     pub fn least_words(&self) -> usize {
         self.program.z as usize + Machine::LEAST_BEYOND_Z
+    }
+
+    /// An entry, a TRAP or any marked position, for another procedure to share.
+    pub fn place_to_share(&self, rng: &mut Rng) -> Place {
+        let is_entry = |place: &Place| {
+            let mut procedures = self.program.procedures(place.module.into()).iter();
+            procedures.any(|procedure| procedure.entry == place.position)
+        };
+        let place = match rng.below(4) {
+            0 => self.place_where(rng, is_entry),
+            1 => self.place_where(rng, |place| place.opcode == TRAP),
+            _ => None,
+        };
+        place.unwrap_or_else(|| self.any_place(rng))
+    }
+
+    /// The offset of a marked position in the map, and its mark.
+    pub fn any_mark(&self, rng: &mut Rng) -> (usize, Mark) {
+        let place = self.any_place(rng);
+        let module = &self.program.modules[usize::from(place.module)];
+        (module.code_start + usize::from(place.position), place.mark)
     }
 
     fn any_place(&self, rng: &mut Rng) -> Place {
@@ -176,7 +203,7 @@ impl World {
         let mut machine = Machine {
             module: place.module,
             pc: place.position,
-            depth: place.depth,
+            depth: place.mark.depth,
             p: p as u16,
             l,
             s: s as u16,
@@ -184,7 +211,7 @@ impl World {
             m: rng.word(),
             stack: [0; 16],
         };
-        for word in &mut machine.stack[..usize::from(place.depth)] {
+        for word in &mut machine.stack[..usize::from(place.mark.depth)] {
             *word = some_word(rng);
         }
         machine
@@ -310,7 +337,7 @@ impl World {
         if usize::from(machine.l) + 3 > self.words {
             return;
         }
-        let same_depth = |place: &Place| place.depth == machine.depth;
+        let same_depth = |place: &Place| place.mark.depth == machine.depth;
         let place = match rng.below(3) {
             0 => Some(self.any_place(rng)),
             1 => self.place_where(rng, |place| {
@@ -394,7 +421,7 @@ impl World {
         let lowest = rng.within(0, highest);
         let between = rng.within(lowest, highest);
         let h = rng.pick(&[lowest, highest, between]);
-        let depth = usize::from(place.depth);
+        let depth = usize::from(place.mark.depth);
         let s = lowest + depth + 1;
         let v = h + usize::from(Machine::MARGIN);
         let record = [
@@ -411,7 +438,7 @@ impl World {
         for i in 0..depth {
             patches.push(((lowest + i) as u16, some_word(rng)));
         }
-        patches.push(((s - 1) as u16, place.depth.into()));
+        patches.push(((s - 1) as u16, depth as u16));
         patches
     }
 
@@ -468,12 +495,11 @@ fn places(program: &Program, image: &[u8], map: &[u8]) -> Vec<Place> {
     let mut places = Vec::new();
     for (number, module) in program.modules.iter().enumerate() {
         for position in 0..module.code_length {
-            let depth = map[module.code_start + position];
-            if depth != UNMARKED {
+            if let Some(mark) = Mark::decode(map[module.code_start + position]) {
                 places.push(Place {
                     module: number as u8,
                     position: position as u16,
-                    depth,
+                    mark,
                     opcode: image[module.code_start + position],
                 });
             }

@@ -80,6 +80,11 @@ fn map() {
     let path = file("unfit", &[1, 0, 0, 1, 2]);
     let output = second(&["map", path.to_str().unwrap()], &[]);
     assert_eq!(text(&output.stdout), "load 8\n");
+    // LI1 and RTN in a procedure with one result: depth + 17 × results.
+    let path = file("result", &[1, 2, 1, 0, 2, 0, 0, 0, 1, 0x01, 0xEC]);
+    let output = second(&["map", path.to_str().unwrap()], &[]);
+    let expected = "load 0\nFF FF FF FF FF FF FF FF FF 11 12\n";
+    assert_eq!(text(&output.stdout), expected);
 }
 
 #[test]
@@ -103,7 +108,7 @@ fn small_cases_and_their_coverage() {
     let path = file("cases-small", &[]);
     let path = path.to_str().unwrap();
     let write = |count: &str| {
-        let arguments = ["cases", "--small", "--seed", "8", "--count", count, path];
+        let arguments = ["cases", "--small", "--seed", "2", "--count", count, path];
         assert_eq!(second(&arguments, &[]).status.code(), Some(0));
         second(&["coverage", path], &[])
     };
@@ -121,6 +126,8 @@ fn coverage_that_misses_something_fails() {
     let output = second(&["coverage", "--seed", "1", "--cases", "1"], &[]);
     assert_eq!(output.status.code(), Some(1));
     assert!(text(&output.stdout).contains("missing: load never answered 8\n"));
+    let narrower = "missing: no images refused with 8 only for a return with one word too many\n";
+    assert!(text(&output.stdout).contains(narrower));
 }
 
 #[test]

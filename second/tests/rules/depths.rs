@@ -1,6 +1,6 @@
 //! The depth rules: hand cases, and the fewest assignment against all others.
 
-use crate::rig::{Rig, WORDS};
+use crate::rig::{Rig, FOR_EVER, WORDS};
 use second::assemble::{encode, Source};
 use second::depths::fits;
 use second::image::{parse, Procedure};
@@ -19,6 +19,11 @@ fn procedure(entry: u16, parameters: u8, results: u8) -> Procedure {
 /// Load's marks of a single module's code, or None for refusal 8.
 fn marks(code: &[u8]) -> Option<Vec<u8>> {
     module_marks(&[Source::plain(code)])
+}
+
+/// A code with an endless jump behind it, which fits at any depth.
+fn then_for_ever(code: &[u8]) -> Vec<u8> {
+    [code, &FOR_EVER].concat()
 }
 
 /// Load's marks of the last module.
@@ -41,8 +46,8 @@ fn operands_lie_in_the_code() {
     assert_eq!(marks(&[0o020]), None);
     assert_eq!(marks(&[0o022, 1]), None);
     assert_eq!(marks(&[0o020, 1]), None);
-    assert_eq!(marks(&[0o020, 1, 0o354]), Some(vec![0, FF, 1]));
-    assert_eq!(marks(&[0o022, 1, 2, 0o354]), Some(vec![0, FF, FF, 1]));
+    assert_eq!(marks(&[0o020, 1, 0o304]), Some(vec![0, FF, 1]));
+    assert_eq!(marks(&[0o022, 1, 2, 0o304]), Some(vec![0, FF, FF, 1]));
     // A jump that needs no next position needs its operand.
     assert_eq!(marks(&[0o033]), None);
     assert_eq!(marks(&[0o035]), None);
@@ -67,7 +72,7 @@ fn the_operands_of_lid_lie_in_the_code() {
     // Whole, but with no next position.
     assert_eq!(marks(&whole), None);
     assert_eq!(
-        marks(&[0o023, 1, 2, 3, 4, 0o354]),
+        marks(&[0o023, 1, 2, 3, 4, 0o304]),
         Some(vec![0, FF, FF, FF, FF, 2])
     );
     // The operand bytes may be marked themselves: a jump back into them.
@@ -89,7 +94,7 @@ fn the_operands_of_lid_lie_in_the_code() {
         part[1] = 0;
         assert_eq!(run_number(&code, &part), 12);
     }
-    let code = [0o354, 0o023, 1, 2, 3, 4, 0o354];
+    let code = [0o354, 0o023, 1, 2, 3, 4, 0o304];
     assert_eq!(run_number(&code, &[0, 0, FF, FF, FF, FF, 2]), 30);
     assert_eq!(run_number(&code, &[0, 14, FF, FF, FF, FF, 16]), 30);
     assert_eq!(run_number(&code, &[0, 15, FF, FF, FF, FF, 16]), 12);
@@ -117,21 +122,19 @@ const DOUBLES: [(&[u8], usize, usize); 13] = [
 fn double_words_are_there_and_find_room() {
     for (instruction, taken, left) in DOUBLES {
         for depth in 0..=16 {
-            let mut code = vec![0o001; depth];
-            code.extend(instruction);
-            code.push(0o354);
+            let code = then_for_ever(&[&vec![0o001; depth], instruction].concat());
             let fits = depth >= taken && depth - taken + left <= 16;
             let expected = fits.then(|| {
                 let mut marks: Vec<u8> = (0..=depth as u8).collect();
                 marks.extend(vec![FF; instruction.len() - 1]);
-                marks.push((depth + left - taken) as u8);
+                marks.extend([(depth + left - taken) as u8, FF]);
                 marks
             });
             assert_eq!(marks(&code), expected, "{instruction:?} at {depth}");
         }
     }
     // A pair is put over 14 words, not over 15 or 16; LSD takes one before.
-    let over = |words: usize, last: &[u8]| [&vec![0o001; words], last, &[0o354]].concat();
+    let over = |words: usize, last: &[u8]| then_for_ever(&[&vec![0o001; words], last].concat());
     for load in [&[0o023, 0, 0, 0, 0][..], &[0o041, 0], &[0o101, 0]] {
         assert!(marks(&over(14, load)).is_some());
         assert_eq!(marks(&over(15, load)), None);
@@ -148,7 +151,7 @@ fn double_words_are_there_and_find_room() {
 #[test]
 fn modules_of_pairs_exist() {
     let code = |words: usize, opcode: u8, module: u8| {
-        [vec![0o001; words], vec![opcode, module, 9, 0o354]].concat()
+        then_for_ever(&[vec![0o001; words], vec![opcode, module, 9]].concat())
     };
     let other = Source::plain(&[0o354]);
     for (words, opcode) in [(0, 0o043), (2, 0o063)] {
@@ -169,12 +172,12 @@ fn modules_of_pairs_exist() {
         assert!(module_marks(&[first, other.clone()]).is_some());
         // Where nothing reaches it, any module may stand; run tests a mark.
         let unreached = [&[0o354], &code(0, opcode, 1)[..]].concat();
-        assert_eq!(marks(&unreached), Some(vec![0, FF, FF, FF, FF]));
+        assert_eq!(marks(&unreached), Some(vec![0, FF, FF, FF, FF, FF]));
         let depth = words as u8;
         let left = 2 - depth;
-        assert_eq!(run_number(&unreached, &[0, depth, FF, FF, left]), 12);
+        assert_eq!(run_number(&unreached, &[0, depth, FF, FF, left, FF]), 12);
         let good = [&[0o354], &code(0, opcode, 0)[..]].concat();
-        assert_eq!(run_number(&good, &[0, depth, FF, FF, left]), 30);
+        assert_eq!(run_number(&good, &[0, depth, FF, FF, left, FF]), 30);
     }
 }
 
@@ -186,16 +189,17 @@ fn opcodes_are_listed_where_they_are_reached() {
 
 #[test]
 fn words_taken_are_there() {
-    assert_eq!(marks(&[0o270, 0o354]), None);
-    assert_eq!(marks(&[0o001, 0o270, 0o354]), None);
-    assert_eq!(marks(&[0o001, 0o001, 0o270, 0o354]), Some(vec![0, 1, 2, 1]));
+    assert_eq!(marks(&then_for_ever(&[0o270])), None);
+    assert_eq!(marks(&then_for_ever(&[0o001, 0o270])), None);
+    assert_eq!(marks(&[0o001, 0o001, 0o270, 0o304]), Some(vec![0, 1, 2, 1]));
     assert_eq!(marks(&[0o304]), None);
 }
 
 #[test]
 fn at_most_16_are_left() {
     // Sixteen literals, COPT puts a seventeenth.
-    let code = |literals: usize, last: u8| [vec![0o001; literals], vec![last, 0o354]].concat();
+    let code =
+        |literals: usize, last: u8| then_for_ever(&[vec![0o001; literals], vec![last]].concat());
     assert!(marks(&code(15, 0o265)).is_some());
     assert_eq!(marks(&code(16, 0o265)), None);
     assert!(marks(&code(15, 0o001)).is_some());
@@ -237,21 +241,21 @@ fn short_circuit_jumps_leave_1_where_they_jump() {
     for opcode in [0o036, 0o037] {
         // The code between puts one word.
         assert_eq!(
-            marks(&[0o001, opcode, 2, 0o001, 0o354]),
+            marks(&[0o001, opcode, 2, 0o001, 0o304]),
             Some(vec![0, 1, FF, 0, 1])
         );
         // With b = 1 both ways meet at once, with different depths.
-        assert_eq!(marks(&[0o001, opcode, 1, 0o354]), None);
+        assert_eq!(marks(&then_for_ever(&[0o001, opcode, 1])), None);
         // With b = 0 it goes to its own operand, LI0, at depth 1, which then
         // leads to depth 2 where going on leads to 0.
-        assert_eq!(marks(&[0o001, opcode, 0, 0o354]), None);
+        assert_eq!(marks(&then_for_ever(&[0o001, opcode, 0])), None);
     }
 }
 
 #[test]
 fn operand_bytes_may_be_marked() {
     // JPF 0 goes to its operand, LI0.
-    assert_eq!(marks(&[0o033, 0, 0o354]), Some(vec![0, 0, 1]));
+    assert_eq!(marks(&[0o033, 0, 0o304]), Some(vec![0, 0, 1]));
 }
 
 #[test]
@@ -260,8 +264,8 @@ fn module_and_procedure_operands_exist() {
         ([0o027, 0, 9], [0o027, 1, 9]),
         ([0o042, 0, 9], [0o042, 1, 9]),
     ] {
-        assert!(marks(&[&good[..], &[0o354]].concat()).is_some());
-        assert_eq!(marks(&[&bad[..], &[0o354]].concat()), None);
+        assert!(marks(&then_for_ever(&good)).is_some());
+        assert_eq!(marks(&then_for_ever(&bad)), None);
     }
     assert!(marks(&[0o001, 0o062, 0, 9, 0o354]).is_some());
     assert_eq!(marks(&[0o001, 0o062, 1, 9, 0o354]), None);
@@ -277,10 +281,10 @@ fn module_and_procedure_operands_exist() {
 
 #[test]
 fn a_call_has_just_the_parameters_and_leaves_the_results() {
-    // Procedure 1 takes 1 and gives 3.
+    // Procedure 1 takes 1 and gives 3: its TRAP is marked 1 + 17 × 3.
     let module = |code: &[u8]| {
         let mut code = code.to_vec();
-        code.push(0o354);
+        code.push(0o304);
         let entry = code.len() as u16 - 1;
         Source {
             procedures: vec![procedure(0, 0, 0), procedure(entry, 1, 3)],
@@ -289,21 +293,24 @@ fn a_call_has_just_the_parameters_and_leaves_the_results() {
         }
     };
     let calls = |code: &[u8]| module_marks(&[module(code)]);
-    assert_eq!(calls(&[0o361, 0o354]), None);
-    assert_eq!(calls(&[0o001, 0o361, 0o354]), Some(vec![0, 1, 3, 1]));
-    assert_eq!(calls(&[0o001, 0o001, 0o361, 0o354]), None);
-    assert_eq!(calls(&[0o001, 0o360, 1, 0o354]), Some(vec![0, 1, FF, 3, 1]));
+    assert_eq!(calls(&[0o361, 0o304]), None);
+    assert_eq!(calls(&[0o001, 0o361, 0o304]), Some(vec![0, 1, 3, 52]));
+    assert_eq!(calls(&[0o001, 0o001, 0o361, 0o304]), None);
+    assert_eq!(
+        calls(&[0o001, 0o360, 1, 0o304]),
+        Some(vec![0, 1, FF, 3, 52])
+    );
     // CI's link is taken first.
-    assert_eq!(calls(&[0o001, 0o356, 1, 0o354]), None);
+    assert_eq!(calls(&[0o001, 0o356, 1, 0o304]), None);
     assert_eq!(
-        calls(&[0o001, 0o001, 0o356, 1, 0o354]),
-        Some(vec![0, 1, 2, FF, 3, 1])
+        calls(&[0o001, 0o001, 0o356, 1, 0o304]),
+        Some(vec![0, 1, 2, FF, 3, 52])
     );
     assert_eq!(
-        calls(&[0o001, 0o355, 0, 1, 0o354]),
-        Some(vec![0, 1, FF, FF, 3, 1])
+        calls(&[0o001, 0o355, 0, 1, 0o304]),
+        Some(vec![0, 1, FF, FF, 3, 52])
     );
-    assert_eq!(calls(&[0o355, 0, 1, 0o354]), None);
+    assert_eq!(calls(&[0o355, 0, 1, 0o304]), None);
     // A call may not come last.
     let last = Source {
         procedures: vec![procedure(0, 0, 0)],
@@ -326,20 +333,21 @@ fn every_procedure_is_an_entry() {
         )]),
         None
     );
-    // Two may share an entry if their parameters agree.
+    // Two may share an entry if their parameters agree, and their results.
     let shared = |parameters| {
         [
             procedure(0, 0, 0),
             procedure(1, 2, 0),
-            procedure(1, parameters, 4),
+            procedure(1, parameters, 0),
         ]
     };
-    let code = [0o354, 0o354];
+    let code = [0o354, 0o304];
     assert_eq!(module_marks(&[module(&shared(2), &code)]), Some(vec![0, 2]));
     assert_eq!(module_marks(&[module(&shared(3), &code)]), None);
     // An entry that the code reaches with another depth.
     let reached = [procedure(0, 0, 0), procedure(1, 2, 0)];
-    assert_eq!(module_marks(&[module(&reached, &[0o336, 0o354])]), None);
+    let code_reached = then_for_ever(&[0o336]);
+    assert_eq!(module_marks(&[module(&reached, &code_reached)]), None);
     // 16 parameters.
     let full = [procedure(0, 0, 0), procedure(1, 16, 0)];
     assert_eq!(module_marks(&[module(&full, &code)]), Some(vec![0, 16]));
@@ -387,21 +395,12 @@ fn run_tests_a_lent_map() {
     assert_eq!(run_number(&code, &[FF, FF, FF, FF, FF, FF, FF]), 12);
     assert_eq!(run_number(&code, &[FF, 1, FF, FF, FF, 1, 0]), 12);
     assert_eq!(run_number(&code, &[1, 2, FF, FF, FF, 2, 1]), 12);
-    // 17 to 254 never fit, not even at an RTN that nothing reaches.
-    let alone = [0o354, 0o354];
-    for mark in 0..=16 {
-        assert_eq!(run_number(&alone, &[0, mark]), 30);
-    }
-    for mark in 17..=254 {
-        assert_eq!(run_number(&alone, &[0, mark]), 12);
-    }
-    assert_eq!(run_number(&alone, &[0, FF]), 30);
-    // Nor where the instruction takes a word: a TRAP, and an SLW4 before it.
+    // The most words: a TRAP that nothing reaches, and an SLW4 before it.
     let takes = [0o354, 0o064, 0o304];
     assert_eq!(run_number(&takes, &[0, FF, 16]), 30);
-    assert_eq!(run_number(&takes, &[0, FF, 17]), 12);
+    assert_eq!(run_number(&takes, &[0, FF, 0]), 12);
     assert_eq!(run_number(&takes, &[0, 16, 15]), 30);
-    assert_eq!(run_number(&takes, &[0, 17, 16]), 12);
+    assert_eq!(run_number(&takes, &[0, 15, 16]), 12);
 }
 
 #[test]
@@ -440,11 +439,21 @@ fn run_goes_by_the_lent_marks() {
     assert_eq!((answer.number, answer.count, rig.machine.pc), (30, 2, 2));
 }
 
+/// Numbers below a bound, always the same ones for a seed.
+fn numbers(mut state: u64) -> impl FnMut(u64) -> u64 {
+    move |bound| {
+        state = state
+            .wrapping_mul(6_364_136_223_846_793_005)
+            .wrapping_add(1);
+        (state >> 33) % bound
+    }
+}
+
 /// Small codes of few opcodes: a position's byte is an opcode or an operand.
 fn small_code(random: &mut impl FnMut(u64) -> u64) -> Vec<u8> {
-    const BYTES: [u8; 14] = [
+    const BYTES: [u8; 15] = [
         0o000, 0o001, 0o002, 0o003, 0o032, 0o033, 0o034, 0o035, 0o036, 0o037, 0o270, 0o265, 0o336,
-        0o354,
+        0o304, 0o354,
     ];
     small_code_of(&BYTES, random)
 }
@@ -454,58 +463,75 @@ fn small_code_of(bytes: &[u8], random: &mut impl FnMut(u64) -> u64) -> Vec<u8> {
     let mut code: Vec<u8> = (0..length)
         .map(|_| bytes[random(bytes.len() as u64) as usize])
         .collect();
-    // Half of them end as a code can.
-    if random(2) == 0 {
-        code[length - 1] = 0o354;
+    // Most of them end as a code can.
+    match random(4) {
+        0 => code[length - 1] = 0o304,
+        1 | 2 => code[length - 1] = 0o354,
+        _ => {}
     }
     code
 }
 
+/// A module of this code with 0 to 2 results. One in three has another
+/// procedure, which begins anywhere and may have other results.
+fn small_module(code: &[u8], random: &mut impl FnMut(u64) -> u64) -> Source {
+    let mut procedures = vec![procedure(0, 0, random(3) as u8)];
+    if random(3) == 0 {
+        let entry = random(code.len() as u64) as u16;
+        procedures.push(procedure(entry, random(3) as u8, random(3) as u8));
+    }
+    Source {
+        procedures,
+        ..Source::plain(code)
+    }
+}
+
 /// "every other fitting assignment marks these positions too, with the same
-/// depths": all assignments of small codes are tried.
+/// depths", and with the same result counts: tries all assignments of these map
+/// bytes to a module's code. Answers whether load accepts it, and how many fit.
+fn try_every_assignment(module: &Source, values: &[u8]) -> (bool, usize) {
+    let image = encode(std::slice::from_ref(module));
+    let program = parse(&image).unwrap();
+    let fewest = module_marks(std::slice::from_ref(module));
+    let mut map = vec![FF; image.len()];
+    let part = program.modules[0].code_range();
+    let mut found = 0;
+    for choice in 0..values.len().pow(part.len() as u32) {
+        let mut rest = choice;
+        for mark in &mut map[part.clone()] {
+            *mark = values[rest % values.len()];
+            rest /= values.len();
+        }
+        if !fits(&program, &image, &map) {
+            continue;
+        }
+        found += 1;
+        let fewest = fewest.as_ref().expect("load refused, but this fits");
+        for (mark, least) in map[part.clone()].iter().zip(fewest) {
+            assert!(*least == FF || mark == least, "{module:?} {map:?}");
+        }
+    }
+    if let Some(fewest) = &fewest {
+        map[part].copy_from_slice(fewest);
+        assert!(fits(&program, &image, &map), "{module:?}");
+        assert!(found > 0, "{module:?}");
+    } else {
+        assert_eq!(found, 0, "{module:?}");
+    }
+    (fewest.is_some(), found)
+}
+
 #[test]
 fn the_fewest_is_in_every_other() {
-    let mut state = 12_345u64;
-    let mut random = |bound: u64| {
-        state = state
-            .wrapping_mul(6_364_136_223_846_793_005)
-            .wrapping_add(1);
-        (state >> 33) % bound
-    };
+    let mut random = numbers(12_345);
+    // Five bytes put at most five words.
+    let values: Vec<u8> = (0..=6).chain([FF]).collect();
     let (mut fitting_codes, mut unfit_codes, mut assignments) = (0, 0, 0);
     for _ in 0..1000 {
-        let code = small_code(&mut random);
-        let image = encode(&[Source::plain(&code)]);
-        let program = parse(&image).unwrap();
-        let fewest = marks(&code);
-        // Five bytes put at most five words.
-        let values: Vec<u8> = (0..=6).chain([FF]).collect();
-        let mut found = 0;
-        let mut map = vec![FF; image.len()];
-        for choice in 0..values.len().pow(code.len() as u32) {
-            let mut rest = choice;
-            for mark in &mut map[4..] {
-                *mark = values[rest % values.len()];
-                rest /= values.len();
-            }
-            if !fits(&program, &image, &map) {
-                continue;
-            }
-            found += 1;
-            let fewest = fewest.as_ref().expect("load refused, but this fits");
-            for (mark, least) in map[4..].iter().zip(fewest) {
-                assert!(*least == FF || mark == least, "{code:?} {map:?}");
-            }
-        }
-        if let Some(fewest) = fewest {
-            map[4..].copy_from_slice(&fewest);
-            assert!(fits(&program, &image, &map), "{code:?}");
-            assert!(found > 0);
-            fitting_codes += 1;
-        } else {
-            assert_eq!(found, 0, "{code:?}");
-            unfit_codes += 1;
-        }
+        let module = Source::plain(&small_code(&mut random));
+        let (fitting, found) = try_every_assignment(&module, &values);
+        fitting_codes += usize::from(fitting);
+        unfit_codes += usize::from(!fitting);
         assignments += found;
     }
     // The choice of codes is a good one.
@@ -516,76 +542,106 @@ fn the_fewest_is_in_every_other() {
     );
 }
 
+/// The same with results, which marks beyond the fewest may have as they like.
+#[test]
+fn the_fewest_is_in_every_other_with_results() {
+    let mut random = numbers(54_321);
+    // Two parameters, and at most one word for each of three bytes.
+    let marks = (0..=2).flat_map(|results| (0..=5).map(move |depth| depth + 17 * results));
+    let values: Vec<u8> = marks.chain([FF]).collect();
+    let (mut fitting_codes, mut unfit_codes, mut assignments) = (0, 0, 0);
+    for _ in 0..3000 {
+        let mut code = small_code(&mut random);
+        code.truncate(3);
+        let module = small_module(&code, &mut random);
+        let (fitting, found) = try_every_assignment(&module, &values);
+        fitting_codes += usize::from(fitting);
+        unfit_codes += usize::from(!fitting);
+        assignments += found;
+    }
+    let counts = (fitting_codes, unfit_codes, assignments);
+    assert!(
+        fitting_codes > 200 && unfit_codes > 200 && assignments > 1000,
+        "{counts:?}"
+    );
+}
+
 /// The rules once more, naively and for these opcodes alone: marks are added
 /// one sweep after another until nothing changes.
-fn naive(code: &[u8]) -> Option<Vec<u8>> {
-    let mut marks = vec![FF; code.len()];
-    marks[0] = 0;
+fn naive(code: &[u8], procedures: &[Procedure]) -> Option<Vec<u8>> {
+    let mut marks: Vec<Option<(i32, i32)>> = vec![None; code.len()];
+    for procedure in procedures {
+        let mark = (procedure.parameters.into(), procedure.results.into());
+        let entry = &mut marks[usize::from(procedure.entry)];
+        if entry.is_some_and(|other| other != mark) {
+            return None;
+        }
+        *entry = Some(mark);
+    }
     loop {
-        let mut changed = false;
+        let before = marks.clone();
         for p in 0..code.len() {
-            if marks[p] == FF {
+            let Some((depth, results)) = marks[p] else {
                 continue;
-            }
-            let d = i32::from(marks[p]);
-            let b = code.get(p + 1).map(|&b| i32::from(b));
-            let at = p as i32 + 1;
-            let after: Vec<(i32, i32)> = match code[p] {
-                0o000..=0o017 => vec![(at, d + 1)],
-                0o032 => vec![(at + b?, d - 1), (at + 1, d - 1)],
-                0o033 => vec![(at + b?, d)],
-                0o034 => vec![(at - b?, d - 1), (at + 1, d - 1)],
-                0o035 => vec![(at - b?, d)],
-                0o036 | 0o037 => vec![(at + b?, d), (at + 1, d - 1)],
-                0o270 if d >= 2 => vec![(at, d - 1)],
-                0o265 if d >= 1 => vec![(at, d + 1)],
-                0o023 if p + 5 <= code.len() => vec![(at + 4, d + 2)],
-                0o202 if d >= 1 => vec![(at, d + 1)],
-                0o222 if d >= 3 => vec![(at, d - 3)],
-                0o210 if d >= 4 => vec![(at, d - 2)],
-                0o336 => vec![(at, d)],
-                0o354 => vec![],
-                _ => return None,
             };
-            for (target, depth) in after {
-                if target < 0 || target >= code.len() as i32 || !(0..=16).contains(&depth) {
+            for (target, depth) in naive_successors(code, p, depth, results)? {
+                if !(0..code.len() as i32).contains(&target) || !(0..=16).contains(&depth) {
                     return None;
                 }
-                let mark = &mut marks[target as usize];
-                if *mark == FF {
-                    *mark = depth as u8;
-                    changed = true;
-                } else if i32::from(*mark) != depth {
+                let mark = marks[target as usize].get_or_insert((depth, results));
+                if *mark != (depth, results) {
                     return None;
                 }
             }
         }
-        if !changed {
-            return Some(marks);
+        if marks == before {
+            let byte = |(depth, results): (i32, i32)| (depth + 17 * results) as u8;
+            return Some(marks.iter().map(|mark| mark.map_or(FF, byte)).collect());
         }
     }
 }
 
+/// The successors of a position, with their depths.
+fn naive_successors(code: &[u8], p: usize, d: i32, results: i32) -> Option<Vec<(i32, i32)>> {
+    let b = code.get(p + 1).map(|&b| i32::from(b));
+    let at = p as i32 + 1;
+    Some(match code[p] {
+        0o000..=0o017 => vec![(at, d + 1)],
+        0o032 => vec![(at + b?, d - 1), (at + 1, d - 1)],
+        0o033 => vec![(at + b?, d)],
+        0o034 => vec![(at - b?, d - 1), (at + 1, d - 1)],
+        0o035 => vec![(at - b?, d)],
+        0o036 | 0o037 => vec![(at + b?, d), (at + 1, d - 1)],
+        0o270 if d >= 2 => vec![(at, d - 1)],
+        0o265 if d >= 1 => vec![(at, d + 1)],
+        0o023 if p + 5 <= code.len() => vec![(at + 4, d + 2)],
+        0o202 if d >= 1 => vec![(at, d + 1)],
+        0o222 if d >= 3 => vec![(at, d - 3)],
+        0o210 if d >= 4 => vec![(at, d - 2)],
+        0o336 => vec![(at, d)],
+        0o304 if d >= 1 => vec![],
+        0o354 if d == results => vec![],
+        _ => return None,
+    })
+}
+
 #[test]
 fn the_worklist_agrees_with_naive_sweeps() {
-    let mut state = 99u64;
-    let mut random = |bound: u64| {
-        state = state
-            .wrapping_mul(6_364_136_223_846_793_005)
-            .wrapping_add(1);
-        (state >> 33) % bound
-    };
-    let mut accepted = 0;
+    let mut random = numbers(99);
+    let mut accepted = [0; 3];
     for _ in 0..100_000 {
         // Several small codes in a row make longer ones.
         let code: Vec<u8> = (0..1 + random(4))
             .flat_map(|_| small_code(&mut random))
             .collect();
-        let expected = naive(&code);
-        assert_eq!(marks(&code), expected, "{code:?}");
-        accepted += usize::from(expected.is_some());
+        let module = small_module(&code, &mut random);
+        let expected = naive(&code, &module.procedures);
+        let results = usize::from(module.procedures[0].results);
+        accepted[results] += usize::from(expected.is_some());
+        assert_eq!(module_marks(&[module]), expected, "{code:?}");
     }
-    assert!(accepted > 5_000, "{accepted}");
+    assert!(accepted.iter().sum::<usize>() > 5_000, "{accepted:?}");
+    assert!(accepted.iter().all(|&count| count > 1_000), "{accepted:?}");
 }
 
 /// The same with double words among few others, so that many codes fit.
@@ -594,20 +650,15 @@ fn the_worklist_agrees_on_double_words() {
     const BYTES: [u8; 12] = [
         0o001, 0o003, 0o023, 0o023, 0o023, 0o202, 0o222, 0o210, 0o033, 0o035, 0o336, 0o336,
     ];
-    let mut state = 1976u64;
-    let mut random = |bound: u64| {
-        state = state
-            .wrapping_mul(6_364_136_223_846_793_005)
-            .wrapping_add(1);
-        (state >> 33) % bound
-    };
+    let mut random = numbers(1976);
     let (mut accepted, mut with_lid) = (0, 0);
     for _ in 0..100_000 {
         let code: Vec<u8> = (0..1 + random(4))
             .flat_map(|_| small_code_of(&BYTES, &mut random))
             .collect();
-        let expected = naive(&code);
-        assert_eq!(marks(&code), expected, "{code:?}");
+        let module = small_module(&code, &mut random);
+        let expected = naive(&code, &module.procedures);
+        assert_eq!(module_marks(&[module]), expected, "{code:?}");
         if let Some(marks) = expected {
             let lid = |(&byte, &mark): (&u8, &u8)| byte == 0o023 && mark != FF;
             accepted += 1;

@@ -4,14 +4,16 @@ use second::api::{run_observed, Buffers};
 use second::assemble::{self, Source};
 use second::case::{decode, encode, replay, Case, CaseRun, Checksum};
 use second::coverage::Coverage;
+use second::depths::{fits, Mark};
 use second::gen::{self, Scale, FULL, SMALL};
-use second::image::{parse, Module};
+use second::image::{parse, Module, Procedure};
 use second::opcode::row;
 use second::{load, run, start, Machine, RunAnswer};
+use std::cell::Cell;
 use std::ops::Range;
 
 /// The seed of the small cases that are kept in a file.
-const SEED: u64 = 8;
+const SEED: u64 = 2;
 
 #[test]
 fn cases_depend_on_seed_and_index_alone() {
@@ -41,6 +43,139 @@ fn everything_is_covered() {
     assert!(faults.contains(&cut.to_string()));
     assert_eq!(ending("with 32 by its first address"), 10);
     assert_eq!(ending("with 32 by its second address alone"), 10);
+    // What A.2 makes of result counts.
+    for results in 0..=4 {
+        assert_eq!(ending(&format!("images with results {results}")), 1);
+    }
+    let refused = faults.iter().filter(|f| f.contains(" refused with "));
+    assert_eq!(refused.count(), 4 + 1);
+    assert_eq!(ending("on a position with the same results"), 1);
+    assert_eq!(ending("on a position with other results"), 1);
+}
+
+/// A case of one module, with 16 inputs in each run.
+fn case_of(procedures: &[(u16, u8, u8)], code: &[u8], runs: &[CaseRun]) -> Case {
+    let procedure = |&(entry, parameters, results): &(u16, u8, u8)| Procedure {
+        entry,
+        parameters,
+        results,
+    };
+    let image = assemble::encode(&[Source {
+        procedures: procedures.iter().map(procedure).collect(),
+        ..Source::plain(code)
+    }]);
+    let mut runs = runs.to_vec();
+    runs.iter_mut().for_each(|run| run.inputs = vec![0; 16]);
+    Case {
+        map_length: image.len(),
+        image,
+        store_length: 200,
+        outputs: vec![0; 16],
+        runs,
+        ..Case::default()
+    }
+}
+
+/// What a case reaches of A.2, but for its marks.
+fn reached_of_results(case: Case) -> Vec<String> {
+    let faults = |cases: Vec<Case>| Coverage::of(cases.into_iter()).faults();
+    let missing = faults(vec![case]);
+    let mut reached = faults(vec![]);
+    reached.retain(|fault| !missing.contains(fault));
+    reached.retain(|fault| fault.contains("for ") || fault.contains("landings"));
+    reached
+}
+
+/// Why A.2 alone refuses an image, or nothing where others rules do too.
+#[test]
+fn narrower_refusals_are_told_apart() {
+    let check = |procedures: &[(u16, u8, u8)], code: &[u8], expected: &[&str]| {
+        let reached = reached_of_results(case_of(procedures, code, &[]));
+        let refused = |kind: &&str| format!("no images refused with 8 only for {kind}");
+        assert_eq!(reached, expected.iter().map(refused).collect::<Vec<_>>());
+    };
+    let main = (0, 0, 0);
+    check(&[main], &[0o354], &[]);
+    check(
+        &[main],
+        &[0o001, 0o354],
+        &["a return with one word too many"],
+    );
+    check(
+        &[main],
+        &[0o001, 0o001, 0o354],
+        &["a return with another depth"],
+    );
+    check(&[(0, 0, 1)], &[0o354], &["a return with another depth"]);
+    // JPB 1 for ever.
+    check(
+        &[main, (0, 0, 1)],
+        &[0o035, 1],
+        &["a shared entry with other counts"],
+    );
+    check(&[main, (0, 0, 0)], &[0o035, 1], &[]);
+    // The same behind a NOP.
+    check(
+        &[main, (1, 0, 1)],
+        &[0o336, 0o035, 1],
+        &["shared code with other counts"],
+    );
+    // Refused without A.2 too: no words, other parameters, another depth.
+    check(&[main], &[0o270, 0o354], &[]);
+    check(&[main, (0, 1, 1)], &[0o035, 1], &[]);
+    check(&[main, (1, 1, 1)], &[0o336, 0o035, 1], &[]);
+}
+
+/// A run refused with 12 counts where bytes 85 to 254 in the code are the only
+/// reason. The code begins at byte 9.
+#[test]
+fn bytes_that_are_no_marks_are_told_apart() {
+    let reached = |map_patches: &[(u16, u8)]| {
+        let run = CaseRun {
+            map_patches: map_patches.to_vec(),
+            ..CaseRun::default()
+        };
+        let case = case_of(&[(0, 0, 0)], &[0o336, 0o354, 0o354], &[run]);
+        assert_eq!(case.image.len(), 12);
+        reached_of_results(case).len()
+    };
+    for byte in [85, 200, 254] {
+        assert_eq!(reached(&[(9, byte)]), 1);
+        assert_eq!(reached(&[(11, byte)]), 1);
+        assert_eq!(reached(&[(9, byte), (10, byte)]), 1);
+        // Outside the code, or with another reason.
+        assert_eq!(reached(&[(8, byte)]), 0);
+        assert_eq!(reached(&[(9, byte), (8, 0)]), 0);
+        assert_eq!(reached(&[(9, byte), (10, 17)]), 0);
+    }
+    for byte in [0, 1, 17, 84, 0xFF] {
+        assert_eq!(reached(&[(9, byte)]), 0);
+    }
+}
+
+/// A landing counts where it is the only step of its run.
+#[test]
+fn landings_are_told_apart() {
+    let reached = |budgets: &[u32], results: u8| {
+        let run = |&budget: &u32| CaseRun {
+            budget,
+            ..CaseRun::default()
+        };
+        let runs: Vec<CaseRun> = budgets.iter().map(run).collect();
+        // CL1, a TRAP with a word put before it; 1 returns.
+        let code = [0o361, 0o001, 0o304, 0o354];
+        reached_of_results(case_of(&[(0, 0, results), (3, 0, 0)], &code, &runs))
+    };
+    let on = |kind: &str| {
+        [format!(
+            "no landings of 354 on a position with {kind} results"
+        )]
+    };
+    assert_eq!(reached(&[1, 1], 0), on("the same"));
+    assert_eq!(reached(&[1, 1], 3), on("other"));
+    assert_eq!(reached(&[1], 3), [""; 0]);
+    assert_eq!(reached(&[2], 3), [""; 0]);
+    assert_eq!(reached(&[0, 1, 5], 3), [""; 0]);
 }
 
 /// A pair that fails in one way does not cover the other: SSD0 at the last word
@@ -112,11 +247,11 @@ fn unfit_double_words_are_generated() {
     assert!(missing.iter().all(|&count| count > 0), "{missing:?}");
 }
 
-/// An image with the missing operands of a LID and an RTN behind a module's
+/// An image with the missing operands of a LID and a TRAP behind a module's
 /// code, whose length stands just before it.
 fn completed(image: &[u8], code: Range<usize>, operands: usize) -> Vec<u8> {
     let mut rest = vec![0; 4 - operands];
-    rest.push(0o354);
+    rest.push(0o304);
     let length = (code.len() + rest.len()) as u16;
     let mut whole = image.to_vec();
     whole[code.start - 2..code.start].copy_from_slice(&length.to_be_bytes());
@@ -287,9 +422,8 @@ fn a_stack_is_printed_without_its_last_zeros() {
         ..Case::default()
     };
     let text = replay(&case, &mut ()).to_string();
-    assert!(text.contains(
-        "\nrun 1 code 0 count 0 machine 0 0 0 0 0 0 0 0 stack 0 5 outputs store 1 1\n"
-    ));
+    assert!(text
+        .contains("\nrun 1 code 0 count 0 machine 0 0 0 0 0 0 0 0 stack 0 5 outputs store 1 1\n"));
 }
 
 /// Small cases reach the largest sizes too.
@@ -362,6 +496,39 @@ fn for_each_run(cases: impl Iterator<Item = Case>, check: impl Fn(&Case, &[u8], 
             state.run(&case, &map, &run.inputs, run.budget);
         }
     }
+}
+
+/// Lent maps with result counts of their own: marks beyond the fewest that fit,
+/// and counts other than load's, which are all that does not fit.
+#[test]
+fn lent_result_counts_are_generated() {
+    let (beyond, other) = (Cell::new(0), Cell::new(0));
+    for_each_run(gen::cases(&SMALL, SEED, 3008), |case, map, _, _| {
+        let mut loaded = vec![0; case.image.len()];
+        if map.len() < loaded.len() || load(&case.image, &mut loaded) != 0 {
+            return;
+        }
+        let program = parse(&case.image).unwrap();
+        let fit = fits(&program, &case.image, map);
+        let mut mended = map.to_vec();
+        for (byte, &least) in mended.iter_mut().zip(&loaded) {
+            match (Mark::decode(*byte), Mark::decode(least)) {
+                (Some(mark), None) if fit && mark.results > 0 => beyond.set(beyond.get() + 1),
+                (Some(mark), Some(least)) => {
+                    let depth = mark.depth;
+                    *byte = Mark { depth, ..least }.encode();
+                }
+                _ => {}
+            }
+        }
+        if !fit && fits(&program, &case.image, &mended) {
+            other.set(other.get() + 1);
+        }
+    });
+    assert!(
+        beyond.get() > 10 && other.get() > 10,
+        "{beyond:?} {other:?}"
+    );
 }
 
 /// "n + m where two runs are compared, m at least 1; their counts add."

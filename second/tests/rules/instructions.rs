@@ -1,6 +1,9 @@
 //! Each listed opcode: its result, and its traps.
 
-use crate::rig::{at_instruction, entry, here, set_stack, BASE_0, BASE_1, H, L, S, WORDS};
+use crate::rig::{
+    at_instruction, at_instruction_of, entry, here, set_stack, BASE_0, BASE_1, FOR_EVER, H, L, S,
+    WORDS,
+};
 use second::opcode::listed;
 use second::Machine;
 
@@ -364,11 +367,11 @@ fn every_listed_opcode_has_a_step() {
     assert_eq!(checked, listed().collect::<Vec<u8>>());
 }
 
-/// The jump is followed by NOPs and an RTN, and stands behind the entry of
-/// procedure 13, three bytes before it.
+/// The jump is followed by NOPs and an endless jump, and stands behind the entry
+/// of procedure 13, three bytes before it.
 fn check_jump(instruction: &[u8], before: &[u16], after: &[u16], target: u16) {
-    let mut rig =
-        crate::rig::at_instruction_with(instruction, before, &[0o336, 0o336, 0o336, 0o354]);
+    let rest = [&[0o336, 0o336, 0o336], &FOR_EVER[..]].concat();
+    let mut rig = at_instruction_of(0, instruction, before, &rest);
     rig.expect_step(
         |machine| {
             set_stack(machine, after);
@@ -633,7 +636,7 @@ fn addresses_from_bases() {
         (&[0o027, 0, 39], true),
     ];
     for (instruction, good) in cases {
-        let code = [instruction, &[0o354]].concat();
+        let code = [instruction, &FOR_EVER].concat();
         let mut rig = Rig::new(&[Source::plain(&code)], 167);
         if good {
             assert_eq!(rig.run(1).count, 1);

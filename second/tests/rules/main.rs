@@ -9,6 +9,7 @@ mod marked;
 mod pairs;
 mod procedures;
 mod refusals;
+mod results;
 mod rig;
 mod table;
 mod transfer;

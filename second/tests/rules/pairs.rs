@@ -1,7 +1,7 @@
 //! A.1's pairs of words at the ends of the store. "If either address fails, trap
 //! 32 is given and neither word is written."
 
-use crate::rig::{at_instruction, set_stack, Rig, BASE_1, WORDS};
+use crate::rig::{at_instruction, set_stack, Rig, BASE_1, FOR_EVER, WORDS};
 use second::assemble::Source;
 
 /// The words that the tests store.
@@ -107,7 +107,7 @@ fn bases() {
     let literal = [0o023, high[0], high[1], low[0], low[1]];
     for (b, good) in [(37, true), (38, false), (39, false), (255, false)] {
         for instruction in [&[0o101, b][..], &[0o043, 0, b]] {
-            let code = [instruction, &[0o354]].concat();
+            let code = [instruction, &FOR_EVER].concat();
             let mut rig = Rig::new(&[Source::plain(&code)], words);
             rig.poke(&[(165, 0x0077), (166, 0x0088)]);
             if good {
@@ -135,7 +135,7 @@ fn bases() {
 fn the_largest_store() {
     let at = |code: &[u8], address: u16| {
         let [high, low] = address.to_be_bytes();
-        let code = [&[0o022, high, low], code, &[0o354]].concat();
+        let code = [&[0o022, high, low], code, &FOR_EVER].concat();
         Rig::new(&[Source::plain(&code)], 65_535)
     };
     let mut rig = at(&[0o202], 65_533);

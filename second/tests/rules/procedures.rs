@@ -1,6 +1,8 @@
 //! Calls and returns.
 
-use crate::rig::{at_instruction, entry, here, set_stack, Rig, BASE_0, BASE_1, H, L, S, WORDS};
+use crate::rig::{
+    at_instruction, at_instruction_of, entry, here, set_stack, Rig, BASE_0, BASE_1, H, L, S, WORDS,
+};
 use second::assemble::Source;
 use second::image::Procedure;
 use second::Machine;
@@ -110,7 +112,7 @@ fn calls_stop_at_the_limit() {
 #[test]
 fn a_call_and_its_return() {
     let main = Source {
-        procedures: vec![procedure(0, 0, 0), procedure(7, 2, 1)],
+        procedures: vec![procedure(0, 0, 1), procedure(7, 2, 1)],
         code: vec![
             0o003, 0o004, 0o361, 0o064, 0o000, 0o354, 0o336, // main
             0o353, 2, 0o270, 0o354, // 1
@@ -195,10 +197,11 @@ fn thirty_two_modules() {
     assert_eq!(rig.machine.s, base + 3 + 12 + 31 * 4);
 }
 
-/// A rig before an RTN at depth `words.len()`, with this mark at L.
+/// A rig before an RTN at depth `words.len()`, which are the results, with this
+/// mark at L.
 fn at_return(words: &[u16], mark: [u16; 3]) -> Rig {
     // Behind the RTN: an instruction never reached.
-    let mut rig = at_instruction(&[0o354], words);
+    let mut rig = at_instruction_of(words.len() as u8, &[0o354], words, &[0o354]);
     rig.machine.l = 1000;
     rig.poke(&[(1000, mark[0]), (1001, mark[1]), (1002, mark[2])]);
     rig
@@ -301,12 +304,13 @@ fn l_above_h_is_34_before_the_end_mark() {
 fn an_overwritten_mark() {
     let code = |mark: u8| {
         vec![
-            0o361, 0o304, 0o020, mark, 0o060, 2, 0o354, // 1 from position 2
+            0o361, 0o001, 0o304, // main
+            0o020, mark, 0o060, 2, 0o354, // 1
         ]
     };
     let run = |mark: u8| {
         let main = Source {
-            procedures: vec![procedure(0, 0, 0), procedure(2, 0, 1)],
+            procedures: vec![procedure(0, 0, 0), procedure(3, 0, 0)],
             code: code(mark),
             ..Source::default()
         };
@@ -314,10 +318,12 @@ fn an_overwritten_mark() {
         let answer = rig.run(100);
         (answer.number, answer.count, rig.machine.pc)
     };
-    // The right position, but one result is missing; an operand; no position.
-    assert_eq!(run(1), (34, 3, 6));
-    assert_eq!(run(3), (34, 3, 6));
-    assert_eq!(run(200), (34, 3, 6));
+    // The right position: LI1 and TRAP follow.
+    assert_eq!(run(1), (40, 5, 2));
+    // A position with one word more; an operand; no position.
+    assert_eq!(run(2), (34, 3, 7));
+    assert_eq!(run(4), (34, 3, 7));
+    assert_eq!(run(200), (34, 3, 7));
     // Back to the call, which is marked 0: the calls come again for ever.
     assert_eq!(run(0), (30, 100, 0));
 }

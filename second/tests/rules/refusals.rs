@@ -341,9 +341,18 @@ fn a_budget_of_0_tests_everything_and_spends_nothing() {
 
 #[test]
 fn what_a_machine_is() {
-    // LI1, JPF to 4, LI0, RTN: positions 0, 1 and 4 are marked, 3 is not.
-    let rig = Rig::plain(&[0o001, 0o033, 2, 0o000, 0o354]);
-    assert_eq!(rig.map[4..], [0, 1, 0xFF, 0xFF, 1]);
+    // LI1, JPF to 4, LI0, RTN: positions 0, 1 and 4 are marked, 3 is not. The
+    // procedure gives 1 result.
+    let module = Source {
+        procedures: vec![Procedure {
+            entry: 0,
+            parameters: 0,
+            results: 1,
+        }],
+        ..Source::plain(&[0o001, 0o033, 2, 0o000, 0o354])
+    };
+    let rig = Rig::new(&[module], WORDS);
+    assert_eq!(rig.map[9..], [17, 18, 0xFF, 0xFF, 18]);
     let machine = rig.machine;
     let number = |change: fn(&mut Machine)| {
         let mut machine = machine;

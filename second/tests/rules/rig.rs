@@ -117,21 +117,26 @@ pub fn entry(n: u16) -> u16 {
     2 + n
 }
 
+/// JPB 1, a jump to itself, which fits at any depth and with any result count.
+pub const FOR_EVER: [u8; 2] = [0o035, 1];
+
 /// A rig stopped before `instruction`, with `words` on the operand stack.
 ///
-/// Module 0 has data size 69 and jumps over sixteen RTNs: procedures 0 to 13
-/// take and give nothing but 0 is the main program, 14 takes 2 and gives 1, 15
-/// takes 16 and gives 4. Then literals put the words, the instruction comes,
-/// and `rest`. Module 1 has data size 10 and four RTNs: procedure 0 takes and
-/// gives nothing, 1 (at position 3) takes 3 and gives 2.
-pub fn at_instruction_with(instruction: &[u8], words: &[u16], rest: &[u8]) -> Rig {
+/// Module 0 has data size 69 and jumps over fourteen RTNs and two TRAPs:
+/// procedures 0 to 13 take nothing, 14 takes 2 and gives 1, 15 takes 16 and
+/// gives 4; 0 is the main program and gives `results`, 1 to 13 give nothing.
+/// Then literals put the words, the instruction comes, and `rest`. Module 1 has
+/// data size 10 and four RTNs: procedure 0 takes and gives nothing, 1 (at
+/// position 3) takes 3 and gives 3.
+pub fn at_instruction_of(results: u8, instruction: &[u8], words: &[u16], rest: &[u8]) -> Rig {
     let procedure = |entry, parameters, results| Procedure {
         entry,
         parameters,
         results,
     };
     let mut code = vec![0o033, 17];
-    code.extend([0o354; 16]);
+    code.extend([0o354; 14]);
+    code.extend([0o304; 2]);
     for word in words {
         code.push(0o022);
         code.extend(word.to_be_bytes());
@@ -139,7 +144,7 @@ pub fn at_instruction_with(instruction: &[u8], words: &[u16], rest: &[u8]) -> Ri
     code.extend(instruction);
     code.extend(rest);
     let mut procedures: Vec<Procedure> = (0..14).map(|n| procedure(entry(n), 0, 0)).collect();
-    procedures[0].entry = 0;
+    procedures[0] = procedure(0, 0, results);
     procedures.push(procedure(entry(14), 2, 1));
     procedures.push(procedure(entry(15), 16, 4));
     let main = Source {
@@ -150,7 +155,7 @@ pub fn at_instruction_with(instruction: &[u8], words: &[u16], rest: &[u8]) -> Ri
     };
     let other = Source {
         data_size: 10,
-        procedures: vec![procedure(0, 0, 0), procedure(3, 3, 2)],
+        procedures: vec![procedure(0, 0, 0), procedure(3, 3, 3)],
         code: vec![0o354; 4],
         ..Source::default()
     };
@@ -162,9 +167,10 @@ pub fn at_instruction_with(instruction: &[u8], words: &[u16], rest: &[u8]) -> Ri
     rig
 }
 
-/// The same with an RTN behind the instruction.
+/// The same in a main program without results, with an endless jump behind the
+/// instruction.
 pub fn at_instruction(instruction: &[u8], words: &[u16]) -> Rig {
-    at_instruction_with(instruction, words, &[0o354])
+    at_instruction_of(0, instruction, words, &FOR_EVER)
 }
 
 /// The position of the instruction after these words.

@@ -39,8 +39,11 @@ loop-holds c = (rw (c .before .before .before .before .pre .1 .1 .1) (blank-queu
 entry-of-requires : tie.Need-entry-of-requires Inv-loop μ-loop
 entry-of-requires c κs = (omega (arith, c .before .before .proc-count .ensures .1), c .before .before .before .before .before .before .pre .0 .near)
 
-params-of-requires : tie.Need-params-of-requires Inv-loop μ-loop
-params-of-requires c κs = (omega (arith, c .before .before .before .proc-count .ensures .1), c .before .before .before .before .before .before .before .pre .0 .near)
+entry-mark-requires : tie.Need-entry-mark-requires Inv-loop μ-loop
+entry-mark-requires c κs =
+    let S = c .before .before .before .before .before .before .before .pre .0 in
+    let l = rw (c .before .before .before .proc-count .ensures .0) at (c .before .loop-test .taken) in
+    ((omega (arith, c .before .before .before .proc-count .ensures .1), S .near), (S .params _ l, S .results _ l))
 
 enqueue-requires : tie.Need-enqueue-requires Inv-loop μ-loop
 enqueue-requires c κs = (c .before .before .before .before .before .loop .inv .0 .room, omega (arith, c .before .before .before .before .before .loop .inv .0 .sized, c .before .before .before .before .before .before .before .before .before .before .pre .0 .short))
@@ -59,7 +62,7 @@ returns c =
     let l = c .before .before .before .before .before .before .before .before .before .before .before .before .loop in
     let lt = rw (c .before .before .before .before .before .before .before .before .before .before .before .before .before .proc-count .ensures .0) at (c .before .before .before .before .before .before .before .before .before .before .before .loop-test .taken) in
     enter-clash (A-of ((c .before .before .before .before .before .before .before .before .before .before .before .before .before .before .before .before .before))) (l .map) (l .work) (l .t) (l .i) (l .inv .0) (l .inv .1) lt (real-of ((c .before .before .before .before .before .before .before .before .before .before .before .before .before .before .before .before .before))) (c .before .before .before .before .before .before .enqueue .last .0) (c .before .before .before .before .before .before .enqueue .last .1 .0)
-    (rw (c .before .before .before .before .before .before .before .before .before .before .entry-of .ensures, c .before .before .before .before .before .before .before .before .before .params-of .ensures) at (rw (c .enum-told .given .1) at (c .before .before .before .before .before .before .enqueue .ensures)))
+    (rw (c .before .before .before .before .before .before .before .before .before .before .entry-of .ensures, c .before .before .before .before .before .before .before .before .before .entry-mark .ensures) at (rw (c .enum-told .given .1) at (c .before .before .before .before .before .before .enqueue .ensures)))
 
 enum-known-v : tie.Need-enum-known-v Inv-loop μ-loop
 enum-known-v c = search needs
@@ -75,7 +78,7 @@ loop-again c =
     let l = c .before .before .before .before .before .before .before .before .before .before .before .before .before .loop in
     let lt = rw (c .before .before .before .before .before .before .before .before .before .before .before .before .before .before .proc-count .ensures .0) at (c .before .before .before .before .before .before .before .before .before .before .before .before .loop-test .taken) in
     let r = enter-tail (A-of ((c .before .before .before .before .before .before .before .before .before .before .before .before .before .before .before .before .before .before))) (l .map) (l .work) (l .t) (l .i) (l .inv .0) (l .inv .1) lt (real-of ((c .before .before .before .before .before .before .before .before .before .before .before .before .before .before .before .before .before .before))) (flow-of ((c .before .before .before .before .before .before .before .before .before .before .before .before .before .before .before .before .before .before))) (c .before .v .given .0 .0) (c .before .before .before .before .before .before .before .enqueue .last .0) (c .before .before .before .before .before .before .before .enqueue .last .1 .0)
-    (rw (c .before .before .before .before .before .before .before .before .before .before .before .entry-of .ensures, c .before .before .before .before .before .before .before .before .before .before .params-of .ensures) at (rw (c .before .v .given .1) at (c .before .before .before .before .before .before .before .enqueue .ensures))) in
+    (rw (c .before .before .before .before .before .before .before .before .before .before .before .entry-of .ensures, c .before .before .before .before .before .before .before .before .before .before .entry-mark .ensures) at (rw (c .before .v .given .1) at (c .before .before .before .before .before .before .before .enqueue .ensures))) in
     (r .0, r .1, omega arith, c .before .before .before .before .before .before .before .enqueue .kept .1 .0 ∙ l .inv .3)
 
 same-length-3 : tie.Need-same-length-3 Inv-loop μ-loop
@@ -96,7 +99,7 @@ enter-spec =
     proc-count-requires
     loop-holds
     entry-of-requires
-    params-of-requires
+    entry-mark-requires
     enqueue-requires
     enum-told
     same-length

@@ -1,10 +1,18 @@
 use mathlib.Core.Path.{refl}
 use Rattle.mcode.specs.Depths.{marked}
 use native.Mathlib.Omega.{arith}
-use borrow.Author.Tests.{lt-ltb, le-ltb, le-leb}
+use borrow.Author.Tests.{lt-ltb, le-ltb}
+use native.Mathlib.Omega.{arith}
+use borrow.Author.Tests.{ne-eqb, lt-ltb, le-ltb, le-leb, lt-leb, eq-eqb}
 use borrow.Author.Needs.{needs}
 use Rattle.control.proofs.table.stands.Statement.{statement}
 use Rattle.control.proofs.table.stands.Tie as tie
+use Rattle.control.proofs.table.stands.Reads as reads
+use Rattle.control.proofs.table.stands.Lts as lts
+use Rattle.control.proofs.table.byte_in.Reads as byte-in-reads
+use Rattle.control.proofs.table.count_of.Reads as count-of-reads
+use Rattle.control.proofs.table.has_depth.Reads as has-depth-reads
+use Rattle.control.proofs.table.number.Reads as number-reads
 
 count-of-requires : tie.Need-count-of-requires
 count-of-requires c κs = search needs
@@ -34,12 +42,12 @@ add-i c = search needs
 byte-in-requires : tie.Need-byte-in-requires
 byte-in-requires c κs = let m = c .before .before .before .before .before .before .pre .0 .marks _ (rw (c .before .before .before .before .count-of .ensures) at (c .before .before .before .if1 .left)) in omega (arith, m, c .before .before .number .ensures, c .number2 .ensures, c .before .if2 .left)
 
-cast-result : tie.Need-cast-result
-cast-result c = search needs
+has-depth-requires : tie.Need-has-depth-requires
+has-depth-requires c κs = search needs
 
 returns-3 : tie.Need-returns-3
 unfolding marked
-returns-3 c = rw (← c .before .before .before .before .before .count-of .ensures, lt-ltb _ _ (c .before .before .before .before .if1 .left), ← c .before .before .before .number .ensures, lt-ltb _ _ (c .before .before .if2 .left), le-leb _ _ (c .before .before .before .before .before .before .before .pre .1), ← c .before .number2 .ensures, ← c .byte-in .ensures .0) refl
+returns-3 c = rw (← c .before .before .before .before .before .before .count-of .ensures, lt-ltb _ _ (c .before .before .before .before .before .if1 .left), ← c .before .before .before .before .number .ensures, lt-ltb _ _ (c .before .before .before .if2 .left), ← c .before .before .number2 .ensures, ← c .before .byte-in .ensures .0) (c .has-depth .ensures)
 
 pub stands-spec : {M : Type 1} → statement M
 stands-spec =
@@ -54,5 +62,5 @@ stands-spec =
     cast-i
     add-i
     byte-in-requires
-    cast-result
+    has-depth-requires
     returns-3)

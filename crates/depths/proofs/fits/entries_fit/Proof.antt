@@ -28,10 +28,13 @@ loop-holds : tie.Need-loop-holds Inv-loop μ-loop
 loop-holds c = (omega arith, below-none _)
 
 entry-of-requires : tie.Need-entry-of-requires Inv-loop μ-loop
-entry-of-requires c κs = (omega (arith, c .before .before .proc-count .ensures .1), c .before .before .before .before .before .pre)
+entry-of-requires c κs = (omega (arith, c .before .before .proc-count .ensures .1), c .before .before .before .before .before .pre .near)
 
-params-of-requires : tie.Need-params-of-requires Inv-loop μ-loop
-params-of-requires c κs = (omega (arith, c .before .before .before .proc-count .ensures .1), c .before .before .before .before .before .before .pre)
+entry-mark-requires : tie.Need-entry-mark-requires Inv-loop μ-loop
+entry-mark-requires c κs =
+    let S = c .before .before .before .before .before .before .pre in
+    let l = rw (c .before .before .before .proc-count .ensures .0) at (c .before .loop-test .taken) in
+    ((omega (arith, c .before .before .before .proc-count .ensures .1), S .near), (S .params _ l, S .results _ l))
 
 has-mark-requires : tie.Need-has-mark-requires Inv-loop μ-loop
 has-mark-requires c κs = search needs
@@ -39,7 +42,7 @@ has-mark-requires c κs = search needs
 returns : tie.Need-returns Inv-loop μ-loop
 returns c =
     let a = c .before .before .before .before .before .before .before .before .before .args in
-    let e = ap₂ (λ (q d : ℕ). eqb (getD (a .map .now) q 255) d) (sym (c .before .before .before .entry-of .ensures)) (sym (c .before .before .params-of .ensures)) ∙ sym (c .before .has-mark .ensures) in
+    let e = ap₂ (λ (q d : ℕ). eqb (getD (a .map .now) q 255) d) (sym (c .before .before .before .entry-of .ensures)) (sym (c .before .before .entry-mark .ensures)) ∙ sym (c .before .has-mark .ensures) in
     sym (one-fails (procCount (a .m)) (entryFits (a .image .now) (a .m) (a .map .now)) (c .before .before .before .before .before .loop .i)
     (omega (arith, c .before .before .before .before .before .before .proc-count .ensures .0, c .before .before .before .before .loop-test .taken)) (e ∙ not-true (c .before .has-mark .result) (c .if1 .taken)))
 
@@ -52,7 +55,7 @@ loop-less c = search needs
 loop-again : tie.Need-loop-again Inv-loop μ-loop
 loop-again c =
     let a = c .before .before .before .before .before .before .before .before .before .args in
-    let e = ap₂ (λ (q d : ℕ). eqb (getD (a .map .now) q 255) d) (sym (c .before .before .before .entry-of .ensures)) (sym (c .before .before .params-of .ensures)) ∙ sym (c .before .has-mark .ensures) in (
+    let e = ap₂ (λ (q d : ℕ). eqb (getD (a .map .now) q 255) d) (sym (c .before .before .before .entry-of .ensures)) (sym (c .before .before .entry-mark .ensures)) ∙ sym (c .before .has-mark .ensures) in (
       omega arith,
       below-more (λ (j : ℕ). entryFits (a .image .now) (a .m) (a .map .now) j ≡ true) (c .before .before .before .before .before .loop .i) (c .before .before .before .before .before .loop .inv .1) (e ∙ not-false (c .before .has-mark .result) (c .if1 .left)),
     )
@@ -71,7 +74,7 @@ entries-fit-spec =
     proc-count-requires
     loop-holds
     entry-of-requires
-    params-of-requires
+    entry-mark-requires
     has-mark-requires
     returns
     add-i

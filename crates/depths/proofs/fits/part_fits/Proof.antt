@@ -1,14 +1,22 @@
 -- The test of a module's part is `fits`.
 use mathlib.Core.Path.{refl, sym, _∙_}
+use Rattle.mcode.specs.Opcode.{lengths, takens, lefts}
 use Rattle.mcode.specs.Depths.{fits}
+use Rattle.depths.specs.Cases.{kindOf, kindsFrom, kinds}
 use Rattle.depths.proofs.Parts.{part-rest}
 use borrow.Author.Tests.{eq-eqb}
+use native.Mathlib.Omega.{arith}
+use borrow.Author.Tests.{ne-eqb, lt-ltb, le-ltb, le-leb, lt-leb, eq-eqb}
 use borrow.Author.Needs.{needs}
 use Rattle.depths.proofs.fits.part_fits.Statement.{statement}
 use Rattle.depths.proofs.fits.part_fits.Tie as tie
+use Rattle.depths.proofs.fits.part_fits.Reads as reads
+use Rattle.depths.proofs.fits.part_fits.Lts as lts
+use Rattle.depths.proofs.fits.entries_fit.Reads as entries-fit-reads
+use Rattle.depths.proofs.fits.marks_fit.Reads as marks-fit-reads
 
 entries-fit-requires : tie.Need-entries-fit-requires
-entries-fit-requires c κs = search needs
+entries-fit-requires c κs = c .before .before .pre .0 .0
 
 sub-code : tie.Need-sub-code
 sub-code c = search needs
@@ -20,11 +28,15 @@ part-code-end : tie.Need-part-code-end
 part-code-end c = search needs
 
 marks-fit-requires : tie.Need-marks-fit-requires
-marks-fit-requires c κs = (c .before .before .before .before .before .pre .0, (c .before .before .before .before .before .pre .1, part-rest (c .before .before .before .before .before .args .image .now) (c .before .before .before .before .before .args .m .code)))
+unfolding lengths takens lefts kindOf kindsFrom kinds
+marks-fit-requires c κs = (
+  record { sound = c .before .before .before .before .before .before .before .before .before .pre .0 .0; placed = c .before .before .before .before .before .before .before .before .before .pre .0 .1; sizes-are = refl; takes-are = refl; leaves-are = refl; kinds-are = refl },
+  (c .before .before .before .before .before .before .before .before .before .pre .1, part-rest (c .before .before .before .before .before .before .before .before .before .args .image .now) (c .before .before .before .before .before .before .before .before .before .args .m .code)),
+)
 
 returns : tie.Need-returns
 unfolding fits
-returns c = rw (eq-eqb _ _ (c .before .before .before .before .before .before .pre .1), sym (c .before .before .before .entries-fit .ensures) ∙ c .before .before .if1 .taken) (c .marks-fit .ensures)
+returns c = rw (eq-eqb _ _ (c .before .before .before .before .before .before .before .before .before .before .pre .1), sym (c .before .before .before .before .before .before .before .entries-fit .ensures) ∙ c .before .before .before .before .before .before .if1 .taken) (c .marks-fit .ensures)
 
 returns-2 : tie.Need-returns-2
 unfolding fits

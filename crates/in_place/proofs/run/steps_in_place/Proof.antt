@@ -255,7 +255,7 @@ module _ {M : Type 1} (𝓤 : URA M) (H : Heap 𝓤) (A : Atoms 𝓤) (W : Given
     os = os;
     count = t .count + 1;
     is = at-own m v g;
-    on = goes-on (x₁ .now) (x₃ .now) (x₅ .now) n (length (x₄ .now)) s₀ (t .count) (at t) (t .on) (leftAt r m zs os) (ask .prepared .fits) l e z;
+    on = goes-on (x₁ .now) (x₃ .now) (x₅ .now) n (length (x₄ .now)) s₀ (t .count) (at t) (t .on) (leftAt r m zs os) (ask .prepared .told) (ask .prepared .fits) l e z;
   }
 
   less : (t : Tn) → t .count < n → n - (t .count + 1) < n - t .count

@@ -1,0 +1,30 @@
+-- What a mark permits.
+use mathlib.Core.Path.{refl}
+use Rattle.mcode.specs.Depths.{permits}
+use borrow.Author.Tests.{ne-eqb, eq-eqb}
+use native.Mathlib.Omega.{arith}
+use borrow.Author.Tests.{ne-eqb, lt-ltb, le-ltb, le-leb, lt-leb, eq-eqb}
+use borrow.Author.Needs.{needs}
+use Rattle.depths.proofs.rules.permitted.Statement.{statement}
+use Rattle.depths.proofs.rules.permitted.Tie as tie
+use Rattle.depths.proofs.rules.permitted.Reads as reads
+use Rattle.depths.proofs.rules.permitted.Lts as lts
+use Rattle.depths.proofs.rules.depth_of.Reads as depth-of-reads
+use Rattle.depths.proofs.rules.promised_of.Reads as promised-of-reads
+
+depth-of-requires : tie.Need-depth-of-requires
+depth-of-requires c κs = search needs
+
+promised-of-requires : tie.Need-promised-of-requires
+promised-of-requires c κs = search needs
+
+returns : tie.Need-returns
+unfolding permits
+returns c = rw (eq-eqb _ _ (c .before .before .if1 .taken), ← c .before .depth-of .ensures, ← c .promised-of .ensures) refl
+
+returns-2 : tie.Need-returns-2
+unfolding permits
+returns-2 c = rw (ne-eqb _ _ (c .if1 .left)) refl
+
+pub permitted-spec : {M : Type 1} → statement M
+permitted-spec = tie.close (tie.spec depth-of-requires promised-of-requires returns returns-2)

@@ -58,16 +58,20 @@ fn has_depth(mark: u16, depth: usize) -> bool
     if m == depth {
         return true;
     }
-    if m == depth + 17 {
+    if m < depth {
+        return false;
+    }
+    let x = m - depth;
+    if x == 17 {
         return true;
     }
-    if m == depth + 34 {
+    if x == 34 {
         return true;
     }
-    if m == depth + 51 {
+    if x == 51 {
         return true;
     }
-    m == depth + 68
+    x == 68
 }
 
 // Whether module k is loaded and a position of it is marked with a depth.

@@ -14,7 +14,7 @@ use Rattle.mcode.specs.Word.{pick, and, or}
 use Rattle.mcode.specs.Opcode.{lengths, takens, lefts}
 use Rattle.mcode.specs.Image.{noModule, codeByte, procCount, paramsOf, resultsOf}
 use Rattle.mcode.specs.Depths.{markOf, depthOf, isMark, passed, permits, depthFlow, carry, flowAt, onward, jumps, calls, callsIn, namesModule, target}
-use Rattle.mcode.proofs.Marks.{is-mark, mark-most, mark-real, depth-passed, passed-real, real-marked}
+use Rattle.mcode.proofs.Marks.{mark-real, passed-real, real-marked}
 use Rattle.mcode.specs.Layout.{Sound}
 use Rattle.depths.specs.Lent.{light, lights, lightOf, Placed}
 use Rattle.depths.proofs.Theory.{Real}
@@ -26,13 +26,6 @@ light-at [] (t ∷ ts) k e = absurd (let z : ⊥ = omega (arith, e) in z)
 light-at (p ∷ ps) [] k e = absurd (let z : ⊥ = omega (arith, e) in z)
 light-at (p ∷ ps) (t ∷ ts) zero e = refl
 light-at (p ∷ ps) (t ∷ ts) (suc k) e = light-at ps ts k (omega (arith, e))
-
--- a mark at depth 0: the one with the results of any mark
-abbrev pub Floor : ℕ → Type 0
-Floor k = (k ≤ 84) × (depthOf k ≡ 0)
-
-pub floor-real : (k : ℕ) → k ≤ 84 → Floor (passed k 0)
-floor-real k l = (mark-most _ (passed-real k 0 (is-mark k l) (omega arith)), depth-passed k 0 (omega arith))
 
 -- the depths that a flow asks are at most 16
 abbrev Shallow : Flow → Type 0

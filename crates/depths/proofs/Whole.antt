@@ -1,5 +1,5 @@
 -- The walk of the test over the modules of a lent map: what is tested so far, one module more, and what each test decides.
-use mathlib.Core.Path.{_≡_, refl, sym, ap₂, _∙_, subst}
+use mathlib.Core.Path.{_≡_, refl, sym, ap, _∙_, subst}
 use mathlib.Core.Bool.{Bool, true, false, false≢true}
 use mathlib.Core.List.{List}
 use Prim.Native.Nat.{ℕ, _+_, _-_, _≤_, _<_}
@@ -10,17 +10,17 @@ use borrow.Author.Count.{below-more}
 use borrow.Author.Tests.{ltb-true, leb-true, lt-ltb, le-ltb, le-leb}
 use lib.ListN.{length}
 use lib.Dec.{ltb, leb, eqb}
+use Rattle.mcode.specs.declared.Module.{Module}
 use Rattle.mcode.specs.declared.Program.{Program}
 use Rattle.mcode.specs.Word.{and, or, allBelow, byte}
 use Rattle.mcode.specs.Image.{moduleOf, inCode}
-use Rattle.mcode.specs.Depths.{depths, marksOf, fits, mapFits}
+use Rattle.mcode.specs.Depths.{Analysis, depths, marksOf, fits, mapFits}
 use Rattle.mcode.specs.Layout.{Told}
-use Rattle.mcode.proofs.Tests.{and-both, both-and, first-or, second-or, or-second, all-at, at-all, any-at, at-any}
+use Rattle.mcode.proofs.Tests.{refuted, and-both, both-and, first-or, second-or, or-second, all-at, at-all, any-at, at-any}
 use Rattle.depths.specs.Lent.{depthsOf, Copied}
 use Rattle.depths.specs.Test.{clear, unmarked}
 use Rattle.depths.proofs.Parts.{part}
 use Rattle.depths.proofs.Same.{depths-same}
-use Rattle.depths.proofs.Bools.{refuted}
 
 -- module k's code lies from `from` up to `to`
 abbrev pub from : Program → ℕ → ℕ
@@ -29,9 +29,9 @@ from program k = moduleOf program k .code
 abbrev pub to : Program → ℕ → ℕ
 to program k = moduleOf program k .code + moduleOf program k .length
 
--- what is lent of a map for module k
-pub part-is : (program : Program) (map : List ℕ) (k : ℕ) → part map (from program k) (to program k) ≡ marksOf map (moduleOf program k)
-part-is program map k = let q : to program k - from program k ≡ moduleOf program k .length = omega arith in rw q refl
+-- what is lent of a map for a module
+pub part-is : (map : List ℕ) (m : Module) → part map (m .code) (m .code + m .length) ≡ marksOf map m
+part-is map m = let q : m .code + m .length - m .code ≡ m .length = omega arith in rw q refl
 
 -- the two tests that mapFits makes of each module, and of each byte
 abbrev pub partFits : List ℕ → Program → List ℕ → ℕ → Bool
@@ -40,10 +40,10 @@ partFits image program map k = fits (depths image program (moduleOf program k)) 
 abbrev byteFits : Program → List ℕ → ℕ → Bool
 byteFits program map i = or (inCode program i) (eqb (byte map i) 0xff)
 
--- module k's test, as it is made of what is lent
-pub part-tested : (image : List ℕ) (program : Program) (map procs tables : List ℕ) → Copied program procs tables → (k : ℕ)
-    → fits (depthsOf image (program .count) procs tables (moduleOf program k)) (part map (from program k) (to program k)) ≡ partFits image program map k
-part-tested image program map procs tables C k = ap₂ fits (depths-same image program procs tables C (moduleOf program k)) (part-is program map k)
+-- module k's test, as it is made of what is lent: of the bytes from `at` up to its code, and of its part
+abbrev pub moduleFits : List ℕ → Program → List ℕ → List ℕ → List ℕ → ℕ → ℕ → Bool
+moduleFits image program map procs tables k at =
+    and (unmarked map at (from program k)) (fits (depthsOf image (program .count) procs tables (moduleOf program k)) (marksOf map (moduleOf program k)))
 
 -- the first k modules fit, and so does all before position `at`
 pub record Tested (image : List ℕ) (program : Program) (map : List ℕ) (k at : ℕ) : Type 0 where
@@ -119,13 +119,13 @@ module _ (image : List ℕ) (program : Program) (map : List ℕ) where
             by (no m) (yes q) = let w : from program k ≤ i = subst (λ (n : ℕ). from program n ≤ i) q u in omega arith
             by (no m) (no q) = omega (arith, T .laid .apart k j (omega arith) h)
 
-    pub gap-fails : k < program .count → unmarked map at (from program k) ≡ false → mapFits image program map ≡ false
+    gap-fails : k < program .count → unmarked map at (from program k) ≡ false → mapFits image program map ≡ false
     gap-fails l u = gap-decides at (from program k) (omega (arith, T .laid .behind k l)) (in-gap l) u
 
-    pub part-fails : k < program .count → partFits image program map k ≡ false → mapFits image program map ≡ false
+    part-fails : k < program .count → partFits image program map k ≡ false → mapFits image program map ≡ false
     part-fails l e = refuted (mapFits image program map) (λ f. false≢true (sym e ∙ fit-parts f k l))
 
-    pub more-tested : k < program .count → unmarked map at (from program k) ≡ true → partFits image program map k ≡ true → Tested image program map (k + 1) (to program k)
+    more-tested : k < program .count → unmarked map at (from program k) ≡ true → partFits image program map k ≡ true → Tested image program map (k + 1) (to program k)
     more-tested l u e = record {
       count = omega arith;
       within = T .laid .behind k l;
@@ -139,6 +139,22 @@ module _ (image : List ℕ) (program : Program) (map : List ℕ) where
         far i h (yes x) d = S .bytes i x
         far i h (no x) (yes y) = clear-fits program map at i (omega arith) (all-at (from program k) (clear map at) u i y)
         far i h (no x) (no y) = first-or (inCode program i) (eqb (byte map i) 0xff) (in-code program k i l (omega arith) h)
+
+    module _ (procs tables : List ℕ) (C : Copied program procs tables) (l : k < program .count) where
+      same : fits (depthsOf image (program .count) procs tables (moduleOf program k)) (marksOf map (moduleOf program k)) ≡ partFits image program map k
+      same = ap (λ (A : Analysis). fits A (marksOf map (moduleOf program k))) (depths-same image program procs tables C (moduleOf program k))
+
+      pub module-fails : moduleFits image program map procs tables k at ≡ false → mapFits image program map ≡ false
+      module-fails e = go (unmarked map at (from program k)) refl
+        where
+          go : (t : Bool) → unmarked map at (from program k) ≡ t → mapFits image program map ≡ false
+          go true t = part-fails l (sym same ∙ (rw t at e))
+          go false t = gap-fails l t
+
+      pub module-passes : moduleFits image program map procs tables k at ≡ true → Tested image program map (k + 1) (to program k)
+      module-passes e =
+          let (u, p) = and-both (unmarked map at (from program k)) _ e in
+          more-tested l u (sym same ∙ p)
 
     -- the bytes after the last code decide
     pub rest-decides : k ≡ program .count → (b : Bool) → b ≡ unmarked map at (length image) → b ≡ mapFits image program map

@@ -24,7 +24,8 @@ ghost use mathlib.Core.Path.{_≡_};
 ghost use Prim.Native.Nat.{_≤_, _<_};
 ghost use lib.ListN.{length, getD, drop};
 ghost use lib.Dec.{eqb};
-ghost use Rattle.mcode.specs.Depths.{depthOf, passed, fits, flowAt, mapFits};
+ghost use Rattle.mcode.specs.Word.{and};
+ghost use Rattle.mcode.specs.Depths.{depthOf, isMark, passed, fits, flowAt, marksOf, mapFits};
 ghost use Rattle.mcode.specs.Layout.{Sound, Told};
 ghost use Rattle.depths.specs.Lent.{lightOf, depthsOf, Placed, Ready};
 ghost use Rattle.depths.specs.Test as test;
@@ -75,15 +76,12 @@ fn entries_fit(image: &[u8], map: &[u8], m: Module) -> bool
     true
 }
 
-// The mark at depth 0 with the results of a mark, which are most often those of the position before: no remainder is taken then.
-fn floor_after(floor: u8, mark: u8) -> u8
+// Whether a mark has the results of `floor`, which is at depth 0: no remainder is taken for it.
+fn has_results(mark: u8, floor: u8) -> bool
     requires { ⌜ (floor ≤ 84) × (depthOf floor ≡ 0) ⌝ }
-    ensures { λ r. ⌜ r ≡ passed mark 0 ⌝ }
+    ensures { λ r. ⌜ r ≡ and (isMark mark) (eqb (passed mark 0) floor) ⌝ }
 {
-    if std::num::wrapping_sub_u8(mark, floor) <= 16 {
-        return floor;
-    }
-    floor_of(mark)
+    std::num::wrapping_sub_u8(mark, floor) <= 16
 }
 
 // Whether position p, with this mark and `floor` the one with its results at depth 0, follows the rules. `code` is the image from the
@@ -146,7 +144,8 @@ fn position_fits(
     }
 }
 
-// Whether each marked position follows the rules.
+// Whether each marked position follows the rules. The results of the position before are most often those of the next one too; where they are
+// not, the position is looked at again with its own.
 fn marks_fit(
     image: &[u8],
     code: &[u8],
@@ -168,8 +167,7 @@ fn marks_fit(
     let mut p: usize = 0;
     while p < map.len() {
         let mark = map[p];
-        if mark <= 84 {
-            floor = floor_after(floor, mark);
+        if has_results(mark, floor) {
             let ok = position_fits(
                 image,
                 code,
@@ -189,16 +187,19 @@ fn marks_fit(
             if !ok {
                 return false;
             }
-        } else if mark != 255 {
+            p += 1;
+        } else if mark == 255 {
+            p += 1;
+        } else if mark <= 84 {
+            floor = floor_of(mark);
+        } else {
             return false;
         }
-        p += 1;
     }
     true
 }
 
-// Whether module m's part of the map fits. It has its own copies of the tables, and two callers: so it is compiled as a function, with the
-// tables in its frame and registers of its own.
+// Whether module m's part of the map fits. It has copies of the tables.
 fn part_fits(
     image: &[u8],
     map: &[u8],
@@ -250,6 +251,29 @@ fn unmarked(map: &[u8], from: usize, to: usize) -> bool
     true
 }
 
+// The same, where the bytes from `at` up to the module's code are unmarked. It has two callers: so it is compiled as a function, with the
+// tables in its frame and registers of its own.
+fn module_fits(
+    image: &[u8],
+    map: &[u8],
+    at: usize,
+    count: usize,
+    procs: &[u16; 32],
+    tables: &[usize; 32],
+    m: Module,
+) -> bool
+    requires { ⌜ Sound (now image) m × Placed (now image) count (now procs) (now tables) ⌝ }
+    requires { ⌜ (length (now image) ≤ length (now map)) × (length (now image) ≤ 65535) ⌝ }
+    ensures { λ r. ⌜ r ≡ and (test.unmarked (now (map .entry)) at (m .code)) (fits (depthsOf (now (image .entry)) count (now (procs .entry)) (now (tables .entry)) m) (marksOf (now (map .entry)) m)) ⌝ }
+{
+    let a = m.code;
+    let e = a + m.length as usize;
+    if unmarked(map, at, a) {
+        return part_fits(image, &map[a..e], count, procs, tables, m);
+    }
+    false
+}
+
 // Whether a lent map fits the image: each module's part does, and the bytes before, between and after the codes are unmarked.
 pub fn map_fits(image: &[u8], program: Program, map: &[u8]) -> bool
     requires { ⌜ Told (now image) program ⌝ }
@@ -261,26 +285,17 @@ pub fn map_fits(image: &[u8], program: Program, map: &[u8]) -> bool
     let tables = records.tables;
     let n = program.count;
     let first = program.modules[0];
-    let start = first.code;
-    let mut at = start + first.length as usize;
-    if !unmarked(map, 0, start) {
+    if !module_fits(image, map, 0, n, &procs, &tables, first) {
         return false;
     }
-    if !part_fits(image, &map[start..at], n, &procs, &tables, first) {
-        return false;
-    }
+    let mut at = first.code + first.length as usize;
     let mut k: usize = 1;
     while k < n {
         let m = program.modules[k];
-        let a = m.code;
-        let e = a + m.length as usize;
-        if !unmarked(map, at, a) {
+        if !module_fits(image, map, at, n, &procs, &tables, m) {
             return false;
         }
-        if !part_fits(image, &map[a..e], n, &procs, &tables, m) {
-            return false;
-        }
-        at = e;
+        at = m.code + m.length as usize;
         k += 1;
     }
     unmarked(map, at, image.len())

@@ -114,7 +114,7 @@ module _ (image : List ℕ) (program : Program) (T : Told image program) (map ys
 pub accepted : (image : List ℕ) (program : Program) (before after : List ℕ) → Filled image program (program .count) after → KeptPast image before after
     → Accepted image program before after
 accepted image program before after F K = record {
-  fewest = λ k l. subst (Fewest (An image program k)) (part-is program after k) (F .fewest k l);
+  fewest = λ k l. subst (Fewest (An image program k)) (part-is after (moduleOf program k)) (F .fewest k l);
   outside = λ i l e. F .outside i l (λ (k, h, x, y). false≢true (sym e ∙ in-code program k i h x y));
   kept = K;
 }

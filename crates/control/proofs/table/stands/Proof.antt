@@ -1,18 +1,11 @@
+-- A position of a loaded module stands in its code, and its mark has the depth.
 use mathlib.Core.Path.{refl}
 use Rattle.mcode.specs.Depths.{marked}
 use native.Mathlib.Omega.{arith}
 use borrow.Author.Tests.{lt-ltb, le-ltb}
-use native.Mathlib.Omega.{arith}
-use borrow.Author.Tests.{ne-eqb, lt-ltb, le-ltb, le-leb, lt-leb, eq-eqb}
 use borrow.Author.Needs.{needs}
 use Rattle.control.proofs.table.stands.Statement.{statement}
 use Rattle.control.proofs.table.stands.Tie as tie
-use Rattle.control.proofs.table.stands.Reads as reads
-use Rattle.control.proofs.table.stands.Lts as lts
-use Rattle.control.proofs.table.byte_in.Reads as byte-in-reads
-use Rattle.control.proofs.table.count_of.Reads as count-of-reads
-use Rattle.control.proofs.table.has_depth.Reads as has-depth-reads
-use Rattle.control.proofs.table.number.Reads as number-reads
 
 count-of-requires : tie.Need-count-of-requires
 count-of-requires c κs = search needs

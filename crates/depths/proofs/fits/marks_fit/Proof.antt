@@ -1,35 +1,28 @@
 -- The test of the positions; the loop keeps that those before p fit, and that `floor` is a mark at depth 0.
 use mathlib.Core.Path.{_≡_, refl, sym, ap, _∙_}
-use mathlib.Core.Logic.{⊎-elim}
 use mathlib.Core.Bool.{true}
-use Prim.Native.Nat.{ℕ, _-_, _≤_, _<_}
-use lib.ListN.{length}
+use Prim.Native.Nat.{ℕ, _≤_, _<_}
+use lib.ListN.{length, getD}
 use borrow.Author.Count.{below-more, below-none}
-use borrow.Author.Tests.{not-true, not-false}
+use borrow.Author.Tests.{not-true, not-false, eqb-true}
 use Rattle.mcode.specs.Depths.{depthOf}
-use Rattle.mcode.proofs.Tests.{at-all}
+use Rattle.mcode.proofs.Tests.{and-both, at-all}
+use Rattle.mcode.proofs.Marks.{mark-most}
 use Rattle.depths.specs.Lent.{lightOf, depthsOf}
 use Rattle.depths.specs.Test.{followedIn, markFits}
-use Rattle.depths.proofs.Marks.{Floor, floor-real}
-use Rattle.depths.proofs.Bools.{one-fails, mark-tested, mark-absent}
+use Rattle.depths.proofs.Bools.{one-fails, Floor, floor-real, left, position-less, floor-less, mark-tested, mark-absent}
 use Rattle.depths.proofs.Flows.{flow-unmarked}
 use native.Mathlib.Omega.{arith}
-use native.Mathlib.Omega.{arith}
-use borrow.Author.Tests.{ne-eqb, lt-ltb, le-ltb, le-leb, lt-leb, eq-eqb}
 use borrow.Author.Needs.{needs}
 use Rattle.depths.proofs.fits.marks_fit.Statement.{statement}
 use Rattle.depths.proofs.fits.marks_fit.Tie as tie
-use Rattle.depths.proofs.fits.marks_fit.Reads as reads
-use Rattle.depths.proofs.fits.marks_fit.Lts as lts
-use Rattle.depths.proofs.fits.floor_after.Reads as floor-after-reads
-use Rattle.depths.proofs.fits.position_fits.Reads as position-fits-reads
 
 abbrev Inv-loop : tie.InvT-loop
 Inv-loop image code map count procs tables m sizes takes leaves kinds floor₀ p₀ floor p =
     (p ≤ length map) × Floor floor × ((j : ℕ) → j < p → markFits (depthsOf image count procs tables m) map j ≡ true)
 
 abbrev μ-loop : tie.MeasureT-loop
-μ-loop image code map count procs tables m sizes takes leaves kinds floor₀ p₀ floor p = length map - p
+μ-loop image code map count procs tables m sizes takes leaves kinds floor₀ p₀ floor p = left map p floor
 
 loop-holds : tie.Need-loop-holds Inv-loop μ-loop
 unfolding depthOf
@@ -38,50 +31,77 @@ loop-holds c = (omega arith, (omega arith, refl), below-none _)
 shared-slice-read-mark : tie.Need-shared-slice-read-mark Inv-loop μ-loop
 shared-slice-read-mark c = search needs
 
-floor-after-requires : tie.Need-floor-after-requires Inv-loop μ-loop
-floor-after-requires c κs = c .before .before .before .loop .inv .1
+has-results-requires : tie.Need-has-results-requires Inv-loop μ-loop
+has-results-requires c κs = c .before .before .loop .inv .1
 
 position-fits-requires : tie.Need-position-fits-requires Inv-loop μ-loop
 position-fits-requires c κs =
-    ((omega (arith, c .before .before .before .before .before .before .before .before .pre .1 .0, c .before .before .before .loop-test .taken), c .before .before .before .before .before .before .before .before .pre .1 .0, c .before .before .before .before .before .before .before .before .pre .1 .1), ((c .before .if1 .taken, c .floor-after .ensures), c .before .before .before .before .before .before .before .before .pre .0))
+    let (l, f) = and-both _ _ (sym (c .before .has-results .ensures) ∙ c .if1 .taken) in
+    ((omega (arith, c .before .before .before .before .before .before .before .before .pre .1 .0, c .before .before .before .loop-test .taken), c .before .before .before .before .before .before .before .before .pre .1 .0, c .before .before .before .before .before .before .before .before .pre .1 .1), ((mark-most _ l, sym (eqb-true _ _ f)), c .before .before .before .before .before .before .before .before .pre .0))
 
 returns : tie.Need-returns Inv-loop μ-loop
 returns c =
     let a = c .before .before .before .before .before .before .before .before .before .before .args in
     let A = depthsOf (a .image .now) (a .count) (a .procs .now) (a .tables .now) (a .m) in
     let p = c .before .before .before .before .before .before .loop .p in
+    let l : getD (a .map .now) p 0 ≤ 84 = mark-most _ (and-both _ _ (sym (c .before .before .before .has-results .ensures) ∙ c .before .before .if1 .taken) .0) in
     sym (one-fails (A .size) (markFits A (a .map .now)) p (omega (arith, c .before .before .before .before .before .before .before .before .before .before .pre .1 .0, c .before .before .before .before .before .loop-test .taken))
-    (mark-tested (a .image .now) (a .count) (a .procs .now) (a .tables .now) (a .m) (a .map .now) p _ (c .before .before .before .before .before .loop-test .taken) (λ z. omega (arith, c .before .before .before .if1 .taken, z)) (c .before .position-fits .ensures)
+    (mark-tested (a .image .now) (a .count) (a .procs .now) (a .tables .now) (a .m) (a .map .now) p _ (c .before .before .before .before .before .loop-test .taken) (λ z. omega (arith, l, z)) (c .before .position-fits .ensures)
     ∙ not-true (c .before .position-fits .result) (c .if2 .taken)))
-
-returns-2 : tie.Need-returns-2 Inv-loop μ-loop
-returns-2 c =
-    let a = c .before .before .before .before .before .before .before .before .args in
-    let A = depthsOf (a .image .now) (a .count) (a .procs .now) (a .tables .now) (a .m) in
-    let p = c .before .before .before .before .loop .p in
-    let f = flow-unmarked (a .image .now) (lightOf (a .count) (a .procs .now) (a .tables .now)) (a .m) p _ (c .before .if1 .left) in
-    sym (one-fails (A .size) (markFits A (a .map .now)) p (omega (arith, c .before .before .before .before .before .before .before .before .pre .1 .0, c .before .before .before .loop-test .taken))
-    (mark-tested (a .image .now) (a .count) (a .procs .now) (a .tables .now) (a .m) (a .map .now) p _ (c .before .before .before .loop-test .taken) (c .if3 .taken) (sym (ap (followedIn (a .map .now)) f))))
 
 add-p : tie.Need-add-p Inv-loop μ-loop
 add-p c = search needs
 
 loop-less : tie.Need-loop-less Inv-loop μ-loop
-loop-less c = search needs
+loop-less c = position-less (c .before .before .before .before .before .before .before .before .before .before .args .map .now) (c .before .before .before .before .before .before .loop .p) (c .before .before .before .before .before .before .loop .floor) (c .before .before .before .before .before .loop-test .taken)
 
 loop-again : tie.Need-loop-again Inv-loop μ-loop
 loop-again c =
-    let a = c .before .before .before .before .before .before .before .args in
+    let a = c .before .before .before .before .before .before .before .before .before .before .args in
     let A = depthsOf (a .image .now) (a .count) (a .procs .now) (a .tables .now) (a .m) in
-    let p = c .before .before .before .loop .p in (
+    let p = c .before .before .before .before .before .before .loop .p in
+    let l : getD (a .map .now) p 0 ≤ 84 = mark-most _ (and-both _ _ (sym (c .before .before .before .has-results .ensures) ∙ c .before .before .if1 .taken) .0) in (
       omega arith,
-      ⊎-elim (λ w. rw (w .4 ∙ w .1 .ensures) (floor-real _ (w .0 .taken))) (λ w. rw (w .2) (c .before .before .before .loop .inv .1)) (c .if1 .came),
-      below-more (λ (j : ℕ). markFits A (a .map .now) j ≡ true) p (c .before .before .before .loop .inv .2)
-          (⊎-elim
-          (λ w. mark-tested (a .image .now) (a .count) (a .procs .now) (a .tables .now) (a .m) (a .map .now) p _ (c .before .before .loop-test .taken) (λ z. omega (arith, w .0 .taken, z)) (w .2 .ensures)
-          ∙ not-false (w .2 .result) (w .3 .left))
-          (λ w. mark-absent (a .image .now) (a .count) (a .procs .now) (a .tables .now) (a .m) (a .map .now) p (c .before .before .loop-test .taken) (w .1 .left)) (c .if1 .came)),
+      c .before .before .before .before .before .before .loop .inv .1,
+      below-more (λ (j : ℕ). markFits A (a .map .now) j ≡ true) p (c .before .before .before .before .before .before .loop .inv .2)
+          (mark-tested (a .image .now) (a .count) (a .procs .now) (a .tables .now) (a .m) (a .map .now) p _ (c .before .before .before .before .before .loop-test .taken) (λ z. omega (arith, l, z)) (c .before .position-fits .ensures)
+          ∙ not-false (c .before .position-fits .result) (c .if2 .left)),
     )
+
+add-p-2 : tie.Need-add-p-2 Inv-loop μ-loop
+add-p-2 c = search needs
+
+loop-less-2 : tie.Need-loop-less-2 Inv-loop μ-loop
+loop-less-2 c = position-less (c .before .before .before .before .before .before .before .before .before .args .map .now) (c .before .before .before .before .before .loop .p) (c .before .before .before .before .before .loop .floor) (c .before .before .before .before .loop-test .taken)
+
+loop-again-2 : tie.Need-loop-again-2 Inv-loop μ-loop
+loop-again-2 c =
+    let a = c .before .before .before .before .before .before .before .before .before .args in
+    let A = depthsOf (a .image .now) (a .count) (a .procs .now) (a .tables .now) (a .m) in
+    let p = c .before .before .before .before .before .loop .p in (
+      omega arith,
+      c .before .before .before .before .before .loop .inv .1,
+      below-more (λ (j : ℕ). markFits A (a .map .now) j ≡ true) p (c .before .before .before .before .before .loop .inv .2)
+          (mark-absent (a .image .now) (a .count) (a .procs .now) (a .tables .now) (a .m) (a .map .now) p (c .before .before .before .before .loop-test .taken) (c .if3 .taken)),
+    )
+
+floor-of-requires : tie.Need-floor-of-requires Inv-loop μ-loop
+floor-of-requires c κs = search needs
+
+loop-less-3 : tie.Need-loop-less-3 Inv-loop μ-loop
+loop-less-3 c = floor-less (c .before .before .before .before .before .before .before .before .before .before .before .args .map .now) (c .before .before .before .before .before .before .before .loop .p) (c .before .before .before .before .before .before .before .loop .floor) _ (c .before .if4 .taken) (sym (c .before .before .before .before .has-results .ensures) ∙ c .before .before .before .if1 .left) (c .floor-of .ensures .0)
+
+loop-again-3 : tie.Need-loop-again-3 Inv-loop μ-loop
+loop-again-3 c = (c .before .before .before .before .before .before .before .loop .inv .0, rw (c .floor-of .ensures .0) (floor-real _ (c .before .if4 .taken)), c .before .before .before .before .before .before .before .loop .inv .2)
+
+returns-2 : tie.Need-returns-2 Inv-loop μ-loop
+returns-2 c =
+    let a = c .before .before .before .before .before .before .before .before .before .before .args in
+    let A = depthsOf (a .image .now) (a .count) (a .procs .now) (a .tables .now) (a .m) in
+    let p = c .before .before .before .before .before .before .loop .p in
+    let f = flow-unmarked (a .image .now) (lightOf (a .count) (a .procs .now) (a .tables .now)) (a .m) p _ (c .if4 .left) in
+    sym (one-fails (A .size) (markFits A (a .map .now)) p (omega (arith, c .before .before .before .before .before .before .before .before .before .before .pre .1 .0, c .before .before .before .before .before .loop-test .taken))
+    (mark-tested (a .image .now) (a .count) (a .procs .now) (a .tables .now) (a .m) (a .map .now) p _ (c .before .before .before .before .before .loop-test .taken) (c .before .if3 .left) (sym (ap (followedIn (a .map .now)) f))))
 
 returns-3 : tie.Need-returns-3 Inv-loop μ-loop
 returns-3 c =
@@ -97,11 +117,17 @@ marks-fit-spec =
     μ-loop
     loop-holds
     shared-slice-read-mark
-    floor-after-requires
+    has-results-requires
     position-fits-requires
     returns
-    returns-2
     add-p
     loop-less
     loop-again
+    add-p-2
+    loop-less-2
+    loop-again-2
+    floor-of-requires
+    loop-less-3
+    loop-again-3
+    returns-2
     returns-3)

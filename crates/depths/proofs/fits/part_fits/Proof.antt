@@ -5,15 +5,9 @@ use Rattle.mcode.specs.Depths.{fits}
 use Rattle.depths.specs.Cases.{kindOf, kindsFrom, kinds}
 use Rattle.depths.proofs.Parts.{part-rest}
 use borrow.Author.Tests.{eq-eqb}
-use native.Mathlib.Omega.{arith}
-use borrow.Author.Tests.{ne-eqb, lt-ltb, le-ltb, le-leb, lt-leb, eq-eqb}
 use borrow.Author.Needs.{needs}
 use Rattle.depths.proofs.fits.part_fits.Statement.{statement}
 use Rattle.depths.proofs.fits.part_fits.Tie as tie
-use Rattle.depths.proofs.fits.part_fits.Reads as reads
-use Rattle.depths.proofs.fits.part_fits.Lts as lts
-use Rattle.depths.proofs.fits.entries_fit.Reads as entries-fit-reads
-use Rattle.depths.proofs.fits.marks_fit.Reads as marks-fit-reads
 
 entries-fit-requires : tie.Need-entries-fit-requires
 entries-fit-requires c κs = c .before .before .pre .0 .0

@@ -2,30 +2,15 @@
 use mathlib.Core.Path.{_≡_, refl, sym, ap, _∙_}
 use Prim.Native.Nat.{_+_, _-_}
 use lib.ListN.{length, length-drop}
-use Rattle.mcode.specs.Word.{byte}
 use Rattle.mcode.specs.Depths.{depthOf}
 use Rattle.mcode.proofs.Marks.{passed-own, passed-floor}
 use Rattle.depths.specs.Lent.{lightOf}
 use Rattle.depths.specs.Test.{followedIn}
 use Rattle.depths.proofs.Flows.{kind-other, row-real, row-floor, flow-unfit, flow-plain, flow-jump, last-passes, flow-unlisted, flow-next, code-byte}
 use native.Mathlib.Omega.{arith}
-use native.Mathlib.Omega.{arith}
-use borrow.Author.Tests.{ne-eqb, lt-ltb, le-ltb, le-leb, lt-leb, eq-eqb}
 use borrow.Author.Needs.{needs}
 use Rattle.depths.proofs.fits.position_fits.Statement.{statement}
 use Rattle.depths.proofs.fits.position_fits.Tie as tie
-use Rattle.depths.proofs.fits.position_fits.Reads as reads
-use Rattle.depths.proofs.fits.position_fits.Lts as lts
-use Rattle.depths.proofs.fits.follows.Reads as follows-reads
-use Rattle.depths.proofs.fits.has_mark.Reads as has-mark-reads
-use Rattle.depths.proofs.rules.byte_at.Reads as byte-at-reads
-use Rattle.depths.proofs.rules.jump.Reads as jump-reads
-use Rattle.depths.proofs.rules.kind_of.Reads as kind-of-reads
-use Rattle.depths.proofs.rules.onward_at.Reads as onward-at-reads
-use Rattle.depths.proofs.rules.permitted.Reads as permitted-reads
-use Rattle.depths.proofs.rules.row_at.Reads as row-at-reads
-use Rattle.depths.proofs.rules.target_at.Reads as target-at-reads
-use Rattle.depths.proofs.rules.wide.Reads as wide-reads
 
 shared-slice-read-op : tie.Need-shared-slice-read-op
 shared-slice-read-op c = omega (arith, ap length (c .before .before .before .before .pre .0 .2) ∙ length-drop (c .before .before .before .before .args .m .code) (c .before .before .before .before .args .image .now), c .before .before .before .before .pre .0 .0, c .before .before .before .before .pre .1 .1 .sound .within)

@@ -1,21 +1,15 @@
-use mathlib.Core.Path.{_≡_, refl, sym, ap, _∙_}
-use Prim.Native.Nat.{ℕ, _+_, _-_, _≤_, _<_}
+-- What follows a call inside the module.
+use mathlib.Core.Path.{_≡_, refl, ap}
+use Prim.Native.Nat.{_-_}
 use native.Mathlib.Omega.{arith}
 use borrow.Author.Tests.{ne-eqb, lt-ltb, le-ltb, eq-eqb}
 use Rattle.mcode.specs.Image.{paramsOf, resultsOf}
-use Rattle.mcode.specs.Depths.{depthOf, passed, calls}
+use Rattle.mcode.specs.Depths.{depthOf, calls}
 use Rattle.mcode.specs.declared.Flow.the-variants.{To}
 use Rattle.mcode.proofs.Marks.{passed-own, passed-floor}
-use native.Mathlib.Omega.{arith}
-use borrow.Author.Tests.{ne-eqb, lt-ltb, le-ltb, le-leb, lt-leb, eq-eqb}
 use borrow.Author.Needs.{needs}
 use Rattle.depths.proofs.rules.call.Statement.{statement}
 use Rattle.depths.proofs.rules.call.Tie as tie
-use Rattle.depths.proofs.rules.call.Reads as reads
-use Rattle.depths.proofs.rules.call.Lts as lts
-use Rattle.depths.proofs.rules.params_of.Reads as params-of-reads
-use Rattle.depths.proofs.rules.proc_count.Reads as proc-count-reads
-use Rattle.depths.proofs.rules.results_of.Reads as results-of-reads
 
 proc-count-requires : tie.Need-proc-count-requires
 proc-count-requires c κs = search needs

@@ -1,15 +1,11 @@
+-- What follows a call of another module, from the lent records.
 use mathlib.Core.Path.{refl}
 use Rattle.mcode.specs.Depths.{callsIn}
 use Rattle.depths.proofs.Marks.{light-at}
 use borrow.Author.Tests.{lt-ltb, le-ltb}
-use native.Mathlib.Omega.{arith}
-use borrow.Author.Tests.{ne-eqb, lt-ltb, le-ltb, le-leb, lt-leb, eq-eqb}
 use borrow.Author.Needs.{needs}
 use Rattle.depths.proofs.rules.call_in.Statement.{statement}
 use Rattle.depths.proofs.rules.call_in.Tie as tie
-use Rattle.depths.proofs.rules.call_in.Reads as reads
-use Rattle.depths.proofs.rules.call_in.Lts as lts
-use Rattle.depths.proofs.rules.call.Reads as call-reads
 
 mul-t12 : tie.Need-mul-t12
 mul-t12 c = search needs

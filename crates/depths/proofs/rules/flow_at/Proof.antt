@@ -6,23 +6,9 @@ use Rattle.mcode.specs.Word.{byte}
 use Rattle.depths.specs.Lent.{lightOf}
 use Rattle.depths.proofs.Flows.{kind-other, row-real, flow-unmarked, flow-unfit, flow-barred, flow-plain, flow-jump, flow-ends, flow-unlisted, flow-next}
 use native.Mathlib.Omega.{arith}
-use native.Mathlib.Omega.{arith}
-use borrow.Author.Tests.{ne-eqb, lt-ltb, le-ltb, le-leb, lt-leb, eq-eqb}
 use borrow.Author.Needs.{needs}
 use Rattle.depths.proofs.rules.flow_at.Statement.{statement}
 use Rattle.depths.proofs.rules.flow_at.Tie as tie
-use Rattle.depths.proofs.rules.flow_at.Reads as reads
-use Rattle.depths.proofs.rules.flow_at.Lts as lts
-use Rattle.depths.proofs.rules.byte_at.Reads as byte-at-reads
-use Rattle.depths.proofs.rules.depth_of.Reads as depth-of-reads
-use Rattle.depths.proofs.rules.floor_of.Reads as floor-of-reads
-use Rattle.depths.proofs.rules.jump.Reads as jump-reads
-use Rattle.depths.proofs.rules.kind_of.Reads as kind-of-reads
-use Rattle.depths.proofs.rules.onward_at.Reads as onward-at-reads
-use Rattle.depths.proofs.rules.permitted.Reads as permitted-reads
-use Rattle.depths.proofs.rules.row_at.Reads as row-at-reads
-use Rattle.depths.proofs.rules.target_at.Reads as target-at-reads
-use Rattle.depths.proofs.rules.wide.Reads as wide-reads
 
 returns : tie.Need-returns
 returns c =

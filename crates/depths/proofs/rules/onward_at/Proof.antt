@@ -1,3 +1,4 @@
+-- What follows an instruction that is no jump, has successors and is not plain: it names a module, or is a call.
 use mathlib.Core.Path.{_≡_, refl, sym, ap, ap₂, _∙_}
 use Prim.Native.Nat.{ℕ, _-_}
 use lib.Dec.{ltb}
@@ -5,22 +6,13 @@ use native.Mathlib.Omega.{arith}
 use borrow.Author.Tests.{lt-ltb, le-ltb}
 use Rattle.mcode.specs.Word.{pick}
 use Rattle.mcode.specs.Depths.{depthOf, passed, carry, calls, callsIn}
-use Rattle.mcode.specs.declared.Flow.{Flow}
 use Rattle.mcode.specs.declared.Flow.the-variants.{Fault, To}
 use Rattle.mcode.proofs.Marks.{passed-own}
 use Rattle.depths.specs.Lent.{lightOf}
 use Rattle.depths.proofs.Flows.{onward-names, onward-far, onward-near}
-use native.Mathlib.Omega.{arith}
-use borrow.Author.Tests.{ne-eqb, lt-ltb, le-ltb, le-leb, lt-leb, eq-eqb}
 use borrow.Author.Needs.{needs}
 use Rattle.depths.proofs.rules.onward_at.Statement.{statement}
 use Rattle.depths.proofs.rules.onward_at.Tie as tie
-use Rattle.depths.proofs.rules.onward_at.Reads as reads
-use Rattle.depths.proofs.rules.onward_at.Lts as lts
-use Rattle.depths.proofs.rules.call.Reads as call-reads
-use Rattle.depths.proofs.rules.call_in.Reads as call-in-reads
-use Rattle.depths.proofs.rules.callee_of.Reads as callee-of-reads
-use Rattle.depths.proofs.rules.wide.Reads as wide-reads
 
 wide-requires : tie.Need-wide-requires
 wide-requires c κs = search needs

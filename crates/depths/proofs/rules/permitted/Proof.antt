@@ -2,15 +2,9 @@
 use mathlib.Core.Path.{refl}
 use Rattle.mcode.specs.Depths.{permits}
 use borrow.Author.Tests.{ne-eqb, eq-eqb}
-use native.Mathlib.Omega.{arith}
-use borrow.Author.Tests.{ne-eqb, lt-ltb, le-ltb, le-leb, lt-leb, eq-eqb}
 use borrow.Author.Needs.{needs}
 use Rattle.depths.proofs.rules.permitted.Statement.{statement}
 use Rattle.depths.proofs.rules.permitted.Tie as tie
-use Rattle.depths.proofs.rules.permitted.Reads as reads
-use Rattle.depths.proofs.rules.permitted.Lts as lts
-use Rattle.depths.proofs.rules.depth_of.Reads as depth-of-reads
-use Rattle.depths.proofs.rules.promised_of.Reads as promised-of-reads
 
 depth-of-requires : tie.Need-depth-of-requires
 depth-of-requires c κs = search needs

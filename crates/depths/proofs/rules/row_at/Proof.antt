@@ -1,24 +1,17 @@
-use mathlib.Core.Path.{_≡_, refl, sym, ap, ap₂, _∙_}
+-- The row of an opcode, by its tests: the mark that it leaves has the words taken less and the words left more.
+use mathlib.Core.Path.{refl, ap, ap₂}
 use Prim.Native.Nat.{ℕ, _+_, _-_, _≤_, _<_}
 use lib.ListN.{getD}
 use native.Mathlib.Omega.{arith}
 use borrow.Author.Tests.{lt-ltb, le-ltb}
 use Rattle.mcode.specs.Opcode.{lengths, takens, lefts}
-use Rattle.mcode.specs.Depths.{depthOf, passed}
+use Rattle.mcode.specs.Depths.{depthOf}
 use Rattle.mcode.proofs.Marks.{depth-few, depth-below, passed-row}
 use Rattle.depths.specs.declared.rules.Row.the-variants.{Next}
 use Rattle.depths.specs.Cases.{rowAt}
-use native.Mathlib.Omega.{arith}
-use borrow.Author.Tests.{ne-eqb, lt-ltb, le-ltb, le-leb, lt-leb, eq-eqb}
 use borrow.Author.Needs.{needs}
 use Rattle.depths.proofs.rules.row_at.Statement.{statement}
 use Rattle.depths.proofs.rules.row_at.Tie as tie
-use Rattle.depths.proofs.rules.row_at.Reads as reads
-use Rattle.depths.proofs.rules.row_at.Lts as lts
-use Rattle.depths.proofs.rules.left_of.Reads as left-of-reads
-use Rattle.depths.proofs.rules.length_of.Reads as length-of-reads
-use Rattle.depths.proofs.rules.taken_of.Reads as taken-of-reads
-use Rattle.depths.proofs.rules.wide.Reads as wide-reads
 
 length-of-requires : tie.Need-length-of-requires
 length-of-requires c κs = search needs

@@ -51,7 +51,7 @@ promised-few k t = let l = leb-true k 84 t in omega arith
 
 pub depth-passed : (k e : ℕ) → e ≤ 16 → depthOf (passed k e) ≡ e
 unfolding passed
-depth-passed k e l = depth-mark e (promised k) l
+depth-passed k e l = depth-mark e _ l
 
 pub promised-passed : (k e : ℕ) → e ≤ 16 → promised (passed k e) ≡ promised k
 unfolding passed

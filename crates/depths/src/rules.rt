@@ -132,7 +132,7 @@ pub fn promised_of(k: u8) -> u8
 
 // The mark with the results of k at depth 0.
 pub fn floor_of(k: u8) -> u8
-    ensures { λ r. ⌜ (r ≡ passed k 0) × (r + depthOf k ≡ k) ⌝ }
+    ensures { λ r. ⌜ r ≡ passed k 0 ⌝ }
 {
     k - k % 17
 }

@@ -521,25 +521,29 @@ fn try_every_assignment(module: &Source, values: &[u8]) -> (bool, usize) {
     (fewest.is_some(), found)
 }
 
+/// Tries every assignment of each module. The choice of modules is a good one:
+/// enough of them fit and do not, with this many fitting assignments or more.
+fn try_all(modules: impl Iterator<Item = Source>, values: &[u8], assignments: usize) {
+    let (mut fitting_codes, mut unfit_codes, mut all) = (0, 0, 0);
+    for module in modules {
+        let (fitting, found) = try_every_assignment(&module, values);
+        fitting_codes += usize::from(fitting);
+        unfit_codes += usize::from(!fitting);
+        all += found;
+    }
+    assert!(
+        fitting_codes > 200 && unfit_codes > 200 && all > assignments,
+        "{fitting_codes} {unfit_codes} {all}"
+    );
+}
+
 #[test]
 fn the_fewest_is_in_every_other() {
     let mut random = numbers(12_345);
     // Five bytes put at most five words.
     let values: Vec<u8> = (0..=6).chain([FF]).collect();
-    let (mut fitting_codes, mut unfit_codes, mut assignments) = (0, 0, 0);
-    for _ in 0..1000 {
-        let module = Source::plain(&small_code(&mut random));
-        let (fitting, found) = try_every_assignment(&module, &values);
-        fitting_codes += usize::from(fitting);
-        unfit_codes += usize::from(!fitting);
-        assignments += found;
-    }
-    // The choice of codes is a good one.
-    let counts = (fitting_codes, unfit_codes, assignments);
-    assert!(
-        fitting_codes > 200 && unfit_codes > 200 && assignments > 500,
-        "{counts:?}"
-    );
+    let modules = (0..1000).map(|_| Source::plain(&small_code(&mut random)));
+    try_all(modules, &values, 500);
 }
 
 /// The same with results, which marks beyond the fewest may have as they like.
@@ -549,21 +553,12 @@ fn the_fewest_is_in_every_other_with_results() {
     // Two parameters, and at most one word for each of three bytes.
     let marks = (0..=2).flat_map(|results| (0..=5).map(move |depth| depth + 17 * results));
     let values: Vec<u8> = marks.chain([FF]).collect();
-    let (mut fitting_codes, mut unfit_codes, mut assignments) = (0, 0, 0);
-    for _ in 0..3000 {
+    let modules = (0..3000).map(|_| {
         let mut code = small_code(&mut random);
         code.truncate(3);
-        let module = small_module(&code, &mut random);
-        let (fitting, found) = try_every_assignment(&module, &values);
-        fitting_codes += usize::from(fitting);
-        unfit_codes += usize::from(!fitting);
-        assignments += found;
-    }
-    let counts = (fitting_codes, unfit_codes, assignments);
-    assert!(
-        fitting_codes > 200 && unfit_codes > 200 && assignments > 1000,
-        "{counts:?}"
-    );
+        small_module(&code, &mut random)
+    });
+    try_all(modules, &values, 1000);
 }
 
 /// The rules once more, naively and for these opcodes alone: marks are added

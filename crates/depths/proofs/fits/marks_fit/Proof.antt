@@ -89,10 +89,10 @@ floor-of-requires : tie.Need-floor-of-requires Inv-loop μ-loop
 floor-of-requires c κs = search needs
 
 loop-less-3 : tie.Need-loop-less-3 Inv-loop μ-loop
-loop-less-3 c = floor-less (c .before .before .before .before .before .before .before .before .before .before .before .args .map .now) (c .before .before .before .before .before .before .before .loop .p) (c .before .before .before .before .before .before .before .loop .floor) _ (c .before .if4 .taken) (sym (c .before .before .before .before .has-results .ensures) ∙ c .before .before .before .if1 .left) (c .floor-of .ensures .0)
+loop-less-3 c = floor-less (c .before .before .before .before .before .before .before .before .before .before .before .args .map .now) (c .before .before .before .before .before .before .before .loop .p) (c .before .before .before .before .before .before .before .loop .floor) _ (c .before .if4 .taken) (sym (c .before .before .before .before .has-results .ensures) ∙ c .before .before .before .if1 .left) (c .floor-of .ensures)
 
 loop-again-3 : tie.Need-loop-again-3 Inv-loop μ-loop
-loop-again-3 c = (c .before .before .before .before .before .before .before .loop .inv .0, rw (c .floor-of .ensures .0) (floor-real _ (c .before .if4 .taken)), c .before .before .before .before .before .before .before .loop .inv .2)
+loop-again-3 c = (c .before .before .before .before .before .before .before .loop .inv .0, rw (c .floor-of .ensures) (floor-real _ (c .before .if4 .taken)), c .before .before .before .before .before .before .before .loop .inv .2)
 
 returns-2 : tie.Need-returns-2 Inv-loop μ-loop
 returns-2 c =

@@ -13,7 +13,7 @@
 #define STEPS 100000
 
 static uint8_t image[MOST_BYTES], map[MOST_BYTES];
-static uint16_t store[WORDS], machine[CEMBUXOLA_MACHINE_WORDS], outputs[CEMBUXOLA_CHANNELS];
+static uint16_t place[CEMBUXOLA_PLACE_WORDS], store[WORDS], machine[CEMBUXOLA_MACHINE_WORDS], outputs[CEMBUXOLA_CHANNELS];
 static const uint16_t inputs[CEMBUXOLA_CHANNELS];
 static uint32_t answer[CEMBUXOLA_ANSWER_NUMBERS];
 static size_t length;
@@ -24,7 +24,7 @@ static void none(void)
 
 static void load(void)
 {
-    cembuxola_load(image, length, map, MOST_BYTES);
+    cembuxola_load(image, length, map, MOST_BYTES, place, CEMBUXOLA_PLACE_WORDS);
 }
 
 static void start(void)

@@ -2,15 +2,20 @@
  *
  * Link with target/staticlib/libcapi.a, which `rt staticlib capi` writes (x86-64). The functions allocate nothing, keep nothing
  * between calls and write only to the buffers named below, so any number of machines may run side by side, in threads too.
- * Of the stack, load takes about 75 KB, start 7 KB and run 13 KB (measured: bench/size, docs/PERFORMANCE.md).
+ * Of the stack, load takes about 78 KB, start 7 KB and run 10 KB (measured: bench/size, docs/PERFORMANCE.md).
  *
- * Each buffer passes as a pointer, then its length in ELEMENTS: bytes of an image or a map, words of a store, a machine, inputs or
- * outputs, numbers of an answer. The caller keeps these rules, which no function can test:
+ * Each buffer passes as a pointer, then its length in ELEMENTS: bytes of an image or a map, words of a place, a store, a machine, inputs
+ * or outputs, numbers of an answer. The caller keeps these rules, which no function can test:
  *   - a pointer is not NULL, also where the length is 0, is aligned for its elements, and that many elements stand there;
  *   - a buffer that a function writes overlaps no other buffer of the call, and nobody else reads or writes it meanwhile;
  *   - nobody writes a buffer that a function reads meanwhile.
  * Every content and every length is answered with a number: nothing else is asked of the caller. What each function answers, and what
  * it leaves in every buffer, is proved equal to what the definition says (crates/capi/specs, crates/mcode/specs).
+ *
+ * The place of a load is CEMBUXOLA_PLACE_WORDS words:
+ *   word 0      module, the first one that is not whole
+ *   word 1      position, the lowest one at fault in that module's code, in bytes
+ * Both are 0 in every answer but 13.
  *
  * The machine is CEMBUXOLA_MACHINE_WORDS words:
  *   word 0      module, where the machine stands
@@ -38,6 +43,7 @@
 extern "C" {
 #endif
 
+#define CEMBUXOLA_PLACE_WORDS 2
 #define CEMBUXOLA_MACHINE_WORDS 24
 #define CEMBUXOLA_ANSWER_NUMBERS 2
 /* The inputs and the outputs of a run. */
@@ -47,7 +53,7 @@ extern "C" {
 #define CEMBUXOLA_ACCEPTED 0
 
 /* Refusals. Load, start and run each read the image first, so any of them may answer 1 to 6. Of those that hold, the first in this
- * order is answered: 1, 2, then 3, 5 and 6 as the image is read, 4; then load 7, 8; start 9; run 7, 12, 9, 10, 11. */
+ * order is answered: 1, 2, then 3, 5 and 6 as the image is read, 4; then load 7, 13, 8; start 9; run 7, 12, 9, 10, 11. */
 enum {
     CEMBUXOLA_IMAGE_SIZE = 1,     /* the image has 0 or over 65,535 bytes */
     CEMBUXOLA_MODULE_COUNT = 2,   /* the module count is 0 or over 32 */
@@ -56,12 +62,15 @@ enum {
     CEMBUXOLA_BIT_MAP = 5,        /* one of the bits 3 to 7 of a bit map stands */
     CEMBUXOLA_FIELD = 6,          /* a field is out of range */
     CEMBUXOLA_MAP_SHORT = 7,      /* the map is shorter than the image */
-    CEMBUXOLA_NO_DEPTHS = 8,      /* no depths fit the code */
+    CEMBUXOLA_NO_DEPTHS = 8,      /* the code is whole and no depths fit */
     CEMBUXOLA_STORE_SIZE = 9,     /* the store has too few words for the image, or over 65,535 */
     CEMBUXOLA_CHANNEL_COUNT = 10, /* the inputs or the outputs are not 16 words */
     CEMBUXOLA_NOT_A_MACHINE = 11, /* the words are no machine that can stand there */
     CEMBUXOLA_MAP_UNFIT = 12,     /* the map does not fit the image */
-    CEMBUXOLA_WRONG_LENGTH = 20   /* the machine is not 24 words, or the answer not 2 numbers; tested before all else */
+    CEMBUXOLA_NOT_WHOLE = 13,     /* the code is not whole: a position reached from the entries without regard to depth has an
+                                   * unlisted opcode, operands outside the code, a missing module or procedure, or a successor
+                                   * outside the code */
+    CEMBUXOLA_WRONG_LENGTH = 20   /* the place is not 2 words, the machine not 24, or the answer not 2 numbers; tested before all else */
 };
 
 /* Stops. A trap and an end leave everything as it was before their instruction, at which the machine stands. */
@@ -80,11 +89,13 @@ enum {
 };
 
 /* Tests an image and fills its map, one byte an image byte: at each position that can be reached the depth of the expression stack plus
- * 17 times the results of the procedure that it belongs to, 0 to 84; FF hex elsewhere. Answers 0, or a refusal 1 to 8.
+ * 17 times the results of the procedure that it belongs to, 0 to 84; FF hex elsewhere. Answers 0, or a refusal 1 to 8, 13 or 20.
  *   image  read
- *   map    as long as the image or longer. 0: filled over the image's length. 8: FF hex over the image's length. Every other refusal
- *          leaves it as it was. Bytes past the image's length are never written. */
-uint16_t cembuxola_load(const uint8_t *image, size_t image_length, uint8_t *map, size_t map_length);
+ *   map    as long as the image or longer. 0: filled over the image's length. 13 and 8: FF hex over the image's length. Every other
+ *          refusal leaves it as it was. Bytes past the image's length are never written.
+ *   place  CEMBUXOLA_PLACE_WORDS words, written: module and position at 13, else 0 and 0. 20 leaves them as they were. */
+uint16_t cembuxola_load(const uint8_t *image, size_t image_length, uint8_t *map, size_t map_length, uint16_t *place,
+                        size_t place_length);
 
 /* Clears the store and makes the machine that stands at procedure 0 of module 0. Answers 0, or a refusal 1 to 6, 9 or 20.
  *   image    read

@@ -2,11 +2,11 @@
 //! some percent, where the store lies to the stack of run, modulo 4,096 bytes, moves calls at a few places by a third, and the machine has
 //! slow phases. The mean of the layouts, each the least of many runs spread over the whole time, is moved little by any of them.
 
-use crate::images::{self, Loop};
+use crate::images::{self, Long, Loop, LONG};
 use crate::mixed;
 use crate::sides::Compared;
 use crate::speed::{line, INPUTS, WORDS};
-use cembuxola::{ANSWER_NUMBERS, MACHINE_WORDS};
+use cembuxola::{ANSWER_NUMBERS, MACHINE_WORDS, PLACE_WORDS};
 use std::ffi::{c_char, c_int, c_void, CString};
 use std::time::Instant;
 
@@ -29,7 +29,8 @@ extern "C" {
     fn dlsym(object: *mut c_void, name: *const c_char) -> *mut c_void;
 }
 
-type Load = unsafe extern "C" fn(*const u8, usize, *mut u8, usize) -> u16;
+/// A library from before A.3 takes no place. On x86-64 a C function ignores two further arguments, so one declaration serves both.
+type Load = unsafe extern "C" fn(*const u8, usize, *mut u8, usize, *mut u16, usize) -> u16;
 type Start = unsafe extern "C" fn(*const u8, usize, *mut u16, usize, *mut u16, usize) -> u16;
 type Run = unsafe extern "C" fn(
     *mut u16,
@@ -80,7 +81,7 @@ impl Build {
             found if found.is_null() => Err(format!("{path} has no {name:?}")),
             found => Ok(found),
         };
-        // SAFETY: include/cembuxola.h declares the functions so.
+        // SAFETY: include/cembuxola.h declares the functions so, and `Load` says what holds of an older one.
         unsafe {
             Ok(Build {
                 load: std::mem::transmute::<*mut c_void, Load>(function(c"cembuxola_load")?),
@@ -92,13 +93,11 @@ impl Build {
 }
 
 impl<'a> Begun<'a> {
-    /// With the store so many bytes after a multiple of 4,096. None where load or start refuses: a library from before a request does not
-    /// know its instructions.
-    fn new(build: &'a Build, program: &'a Loop, offset: usize) -> Option<Begun<'a>> {
-        let image = &program.image;
+    /// With the store so many bytes after a multiple of 4,096.
+    fn new(build: &'a Build, image: &'a [u8], offset: usize) -> Begun<'a> {
         let words = vec![0; WORDS + PAGE / 2];
         let at = (2 * PAGE + offset - words.as_ptr() as usize % PAGE) % PAGE / 2;
-        let mut begun = Begun {
+        Begun {
             build,
             image,
             map: vec![0; image.len()],
@@ -106,14 +105,19 @@ impl<'a> Begun<'a> {
             at,
             outputs: [0; 16],
             machine: [0; MACHINE_WORDS],
-        };
-        if begun.load() != 0 || begun.start() != 0 {
-            return None;
         }
-        for &(address, word) in &program.patches {
-            begun.store()[usize::from(address)] = word;
+    }
+
+    /// Whether load and start accept; the words of the patches are written then. A library from before a request does not know its
+    /// instructions.
+    fn begin(&mut self, patches: &[(u16, u16)]) -> bool {
+        if self.load() != 0 || self.start() != 0 {
+            return false;
         }
-        Some(begun)
+        for &(address, word) in patches {
+            self.store()[usize::from(address)] = word;
+        }
+        true
     }
 
     fn store(&mut self) -> &mut [u16] {
@@ -121,9 +125,19 @@ impl<'a> Begun<'a> {
     }
 
     fn load(&mut self) -> u16 {
+        let mut place = [0; PLACE_WORDS];
         let (image, map) = (self.image, &mut self.map);
-        // SAFETY: each pointer and length are those of a slice, and the slice that is written overlaps no other; below too.
-        unsafe { (self.build.load)(image.as_ptr(), image.len(), map.as_mut_ptr(), map.len()) }
+        // SAFETY: each pointer and length are those of a slice, and a slice that is written overlaps no other; below too.
+        unsafe {
+            (self.build.load)(
+                image.as_ptr(),
+                image.len(),
+                map.as_mut_ptr(),
+                map.len(),
+                place.as_mut_ptr(),
+                place.len(),
+            )
+        }
     }
 
     fn start(&mut self) -> u16 {
@@ -171,23 +185,30 @@ impl<'a> Begun<'a> {
 enum Kind {
     Steps,
     Load,
+    Refused,
     Tests,
 }
 
 impl Kind {
-    /// One timed call, in seconds, or an answer that it should not give.
+    /// Whether the program can be timed on this build: what is refused can on any.
+    fn begin(self, begun: &mut Begun, patches: &[(u16, u16)]) -> bool {
+        matches!(self, Kind::Refused) || begun.begin(patches)
+    }
+
+    /// One timed call, in seconds, or an answer that it should not give. Where code is not whole, a library from before A.3 answers 8.
     fn time(self, begun: &mut Begun) -> Compared<f64> {
         let begin = Instant::now();
-        let (number, wanted) = match self {
-            Kind::Steps => (begun.run(STEPS), 30),
-            Kind::Load => (begun.load(), 0),
-            Kind::Tests => (begun.run(0), 30),
+        let (number, wanted): (u16, &[u16]) = match self {
+            Kind::Steps => (begun.run(STEPS), &[30]),
+            Kind::Load => (begun.load(), &[0]),
+            Kind::Refused => (begun.load(), &[8, 13]),
+            Kind::Tests => (begun.run(0), &[30]),
         };
         let time = begin.elapsed().as_secs_f64();
-        if number == wanted {
+        if wanted.contains(&number) {
             Ok(time)
         } else {
-            Err(format!("{number} is answered, not {wanted}"))
+            Err(format!("{number} is answered, none of {wanted:?}"))
         }
     }
 
@@ -195,7 +216,7 @@ impl Kind {
     fn unit(self) -> (&'static str, f64) {
         match self {
             Kind::Steps => ("ns/step", 1e9 / f64::from(STEPS)),
-            Kind::Load | Kind::Tests => ("us", 1e6),
+            Kind::Load | Kind::Refused | Kind::Tests => ("us", 1e6),
         }
     }
 }
@@ -226,9 +247,10 @@ impl Work {
             let offset = STRIDE * layout;
             for (side, build) in builds.iter().enumerate() {
                 let build = &build[layout % PLACES.len()];
-                let Some(mut begun) = Begun::new(build, &self.program, offset) else {
+                let mut begun = Begun::new(build, &self.program.image, offset);
+                if !self.kind.begin(&mut begun, &self.program.patches) {
                     continue;
-                };
+                }
                 let least = &mut self.least[side][layout];
                 for _ in 0..RUNS {
                     *least = least.min(self.kind.time(&mut begun)?);
@@ -245,7 +267,20 @@ impl Work {
     }
 }
 
-/// All works: the short loops, the mixed programs of several seeds, load and the test of a map.
+/// The works of long images.
+fn long_works(title: &str, kind: Kind, images: Vec<Long>) -> impl Iterator<Item = Work> + '_ {
+    images.into_iter().map(move |long| {
+        let name = format!("{title}: {}", long.name);
+        let program = Loop {
+            name: long.name,
+            image: long.image,
+            patches: Vec::new(),
+        };
+        Work::new(&name, kind, program)
+    })
+}
+
+/// All works: the short loops, the mixed programs of several seeds, load, also of what it refuses, and the test of a map.
 fn works() -> Vec<Work> {
     let mut all = Vec::new();
     for program in images::loops() {
@@ -256,15 +291,13 @@ fn works() -> Vec<Work> {
             all.push(Work::new(program.name, Kind::Steps, program));
         }
     }
-    for (kind, title) in [(Kind::Load, "load"), (Kind::Tests, "n = 0")] {
-        for long in images::long_images() {
-            let program = Loop {
-                name: long.name,
-                image: long.image,
-                patches: Vec::new(),
-            };
-            all.push(Work::new(&format!("{title}: {}", long.name), kind, program));
-        }
+    for (title, kind, images) in [
+        ("load", Kind::Load, images::long_images()),
+        ("13", Kind::Refused, images::broken_images(LONG)),
+        ("8", Kind::Refused, images::unfit_images(LONG)),
+        ("n = 0", Kind::Tests, images::long_images()),
+    ] {
+        all.extend(long_works(title, kind, images));
     }
     all
 }

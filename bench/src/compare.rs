@@ -2,7 +2,7 @@
 
 use crate::sides::{Compared, Sides};
 use crate::words::words;
-use cembuxola::{c as engine, ANSWER_NUMBERS, MACHINE_WORDS};
+use cembuxola::{c as engine, ANSWER_NUMBERS, MACHINE_WORDS, PLACE_WORDS};
 use second::case::Case;
 use second::gen;
 use std::collections::BTreeMap;
@@ -13,7 +13,8 @@ pub struct Total {
     pub cases: u64,
     pub runs: u64,
     pub steps: u64,
-    /// How often each number was answered by a run.
+    /// How often each number was answered by load, and by a run.
+    pub loads: BTreeMap<u16, u64>,
     pub numbers: BTreeMap<u16, u64>,
 }
 
@@ -25,7 +26,8 @@ impl Total {
             vec![case.store_fill; case.store_length],
             case.outputs.clone(),
         );
-        sides.load()?;
+        wrong_places(&sides)?;
+        *self.loads.entry(sides.load()?).or_default() += 1;
         sides.start()?;
         for (index, run) in case.runs.iter().enumerate() {
             for &(offset, byte) in &run.map_patches {
@@ -53,6 +55,22 @@ impl Total {
         self.cases += 1;
         Ok(())
     }
+}
+
+/// A place of a wrong length is answered with 20, and nothing is changed.
+fn wrong_places(sides: &Sides) -> Compared<()> {
+    for words in [0, PLACE_WORDS - 1, PLACE_WORDS + 1] {
+        let mut map = sides.ours.map.clone();
+        let mut place = vec![7; words];
+        let number = engine::load(&sides.image, &mut map, &mut place);
+        let kept = map == sides.ours.map && place.iter().all(|&word| word == 7);
+        if number != 20 || !kept {
+            return Err(format!(
+                "load with a place of {words} words: answered {number}, all kept: {kept}"
+            ));
+        }
+    }
+    Ok(())
 }
 
 /// A machine or an answer of a wrong length is answered with 20, and nothing is changed.

@@ -10,11 +10,15 @@ pub struct Loop {
     pub patches: Vec<(u16, u16)>,
 }
 
-/// An image whose load is timed.
+/// An image whose load is timed, and what load answers.
 pub struct Long {
     pub name: &'static str,
     pub image: Vec<u8>,
+    pub number: u16,
 }
+
+/// Bytes of code of a module of a long image, some more or less.
+pub const LONG: usize = 29_600;
 
 /// The base of the first module.
 const BASE: u16 = 128;
@@ -306,54 +310,117 @@ fn procedures(name: &'static str, most_results: u8, statements: u8) -> Long {
     Long {
         name,
         image: encode(&[module(1), module(0)]),
+        number: 0,
     }
 }
 
-/// Two modules of the same code, of at most 30,000 bytes each.
-fn twice(name: &'static str, code: Vec<u8>) -> Long {
-    let module = Source::plain(&code);
-    Long {
-        name,
-        image: encode(&[module.clone(), module]),
-    }
+/// A module, and the position of the RTN at which all its code ends.
+struct Shape {
+    name: &'static str,
+    module: Source,
+    end: usize,
 }
 
 /// Statements without a jump.
-fn straight() -> Long {
-    let mut code = [0o044, 1, 0o270, 0o064].repeat(7_400);
+fn straight(bytes: usize) -> Shape {
+    let mut code = [0o044, 1, 0o270, 0o064].repeat(bytes / 4);
     code.push(0o354);
-    twice("straight-line code", code)
+    Shape {
+        name: "straight-line code",
+        end: code.len() - 1,
+        module: Source::plain(&code),
+    }
 }
 
 /// A jump to the last of many jumps, each of which leads back to the one before it.
-fn backward_jumps() -> Long {
-    const JUMPS: u16 = 14_800;
-    let [high, low] = (2 * JUMPS + 1).to_be_bytes();
+fn backward_jumps(bytes: usize) -> Shape {
+    let [high, low] = (bytes as u16 + 1).to_be_bytes();
     let mut code = vec![0o031, high, low, 0o354, 0o035, 2];
-    code.extend([0o035, 3].repeat(usize::from(JUMPS) - 1));
-    twice("backward jumps", code)
+    code.extend([0o035, 3].repeat(bytes / 2 - 1));
+    Shape {
+        name: "backward jumps",
+        end: 3,
+        module: Source::plain(&code),
+    }
 }
 
 /// Tests that lead on, or to a place far away.
-fn forks() -> Long {
-    const FORKS: u32 = 7_400;
+fn forks(bytes: usize) -> Shape {
+    let forks = bytes / 4;
     let mut code = Vec::new();
-    for index in 0..FORKS {
-        let target = 4 * (index * 4_099 % FORKS) as i32;
+    for index in 0..forks {
+        let target = 4 * (index * 4_099 % forks) as i32;
         let operand = code.len() as i32 + 2;
         let [high, low] = ((target - operand) as i16).to_be_bytes();
         code.extend([1, 0o030, high, low]);
     }
     code.push(0o354);
-    twice("forks to many targets", code)
+    Shape {
+        name: "forks to many targets",
+        end: code.len() - 1,
+        module: Source::plain(&code),
+    }
+}
+
+/// Instructions of two bytes that are each other's operands: one procedure goes over the even positions, another one over the odd ones.
+fn overlapping(bytes: usize) -> Shape {
+    let code = [vec![0o353; bytes - 1], vec![0o354; 2]].concat();
+    Shape {
+        name: "overlapping code",
+        end: code.len() - 1,
+        module: Source {
+            procedures: vec![procedure(0, 0, 0), procedure(1, 0, 0)],
+            ..Source::plain(&code)
+        },
+    }
+}
+
+/// Two modules of a shape.
+fn twice(shape: Shape) -> Long {
+    let Shape { name, module, .. } = shape;
+    Long {
+        name,
+        image: encode(&[module.clone(), module]),
+        number: 0,
+    }
 }
 
 pub fn long_images() -> Vec<Long> {
     vec![
         procedures("ordinary image", 0, 22),
         procedures("function procedures", 4, 20),
-        straight(),
-        backward_jumps(),
-        forks(),
+        twice(straight(LONG)),
+        twice(backward_jumps(LONG)),
+        twice(forks(LONG)),
     ]
+}
+
+/// Two modules of a shape, the second with another instruction where it ends.
+fn ended(shape: Shape, instruction: u8, number: u16) -> Long {
+    let Shape { name, module, end } = shape;
+    let mut other = module.clone();
+    other.code[end] = instruction;
+    Long {
+        name,
+        image: encode(&[module, other]),
+        number,
+    }
+}
+
+/// The long shapes, and one in which every byte begins an instruction, refused for what stands where they end.
+fn refused(bytes: usize, instruction: u8, number: u16) -> Vec<Long> {
+    let shapes = [straight, backward_jumps, forks, overlapping];
+    shapes
+        .map(|shape| ended(shape(bytes), instruction, number))
+        .into()
+}
+
+/// Refused with 13, of about twice so many bytes: an opcode that is not listed.
+pub fn broken_images(bytes: usize) -> Vec<Long> {
+    refused(bytes, 0o021, 13)
+}
+
+/// Refused with 8, of about twice so many bytes: TRAP with no word on the stack.
+pub fn unfit_images(bytes: usize) -> Vec<Long> {
+    refused(bytes, 0o304, 8)
 }

@@ -24,6 +24,9 @@ fn compare(count: &str, seed: &str) -> Result<(), String> {
         "{} cases, {} runs, {} steps: no difference",
         total.cases, total.runs, total.steps
     );
+    for (number, times) in &total.loads {
+        println!("load answered {number:2}: {times}");
+    }
     for (number, times) in &total.numbers {
         println!("run answered {number:2}: {times}");
     }

@@ -1,7 +1,7 @@
 //! The same calls on both sides, each with buffers of its own, compared after every call.
 
 use crate::words::words;
-use cembuxola::{c as engine, ANSWER_NUMBERS, MACHINE_WORDS};
+use cembuxola::{c as engine, ANSWER_NUMBERS, MACHINE_WORDS, PLACE_WORDS};
 use second::Machine;
 
 /// The buffers and the machine of a program on both sides.
@@ -88,9 +88,11 @@ impl Sides {
     }
 
     pub fn load(&mut self) -> Compared<u16> {
-        let number = engine::load(&self.image, &mut self.ours.map);
-        let other = second::load(&self.image, &mut self.theirs.map);
-        same("load", number, u16::from(other))?;
+        let (number, place) = self.ours.load(&self.image);
+        let other = self.theirs.load(&self.image);
+        same("load", number, u16::from(other.number))?;
+        same("load's module", place[0], u16::from(other.module))?;
+        same("load's position", place[1], other.position)?;
         self.compare()?;
         Ok(number)
     }
@@ -119,6 +121,14 @@ impl Sides {
 }
 
 impl Ours {
+    /// The number and the place.
+    pub fn load(&mut self, image: &[u8]) -> (u16, [u16; PLACE_WORDS]) {
+        // both words are written, whatever stood there
+        let mut place = [0xABCD; PLACE_WORDS];
+        let number = engine::load(image, &mut self.map, &mut place);
+        (number, place)
+    }
+
     pub fn run(&mut self, image: &[u8], inputs: &[u16], n: u32) -> (u16, [u32; ANSWER_NUMBERS]) {
         let mut answer = [0xABCD; ANSWER_NUMBERS];
         let Ours {
@@ -133,6 +143,10 @@ impl Ours {
 }
 
 impl Theirs {
+    pub fn load(&mut self, image: &[u8]) -> second::LoadAnswer {
+        second::load(image, &mut self.map)
+    }
+
     pub fn run(&mut self, image: &[u8], inputs: &[u16], n: u32) -> second::RunAnswer {
         let Theirs {
             map,

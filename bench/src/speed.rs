@@ -1,6 +1,6 @@
 //! Times both sides in turn, in one process, after their results were compared.
 
-use crate::images::{self, Long, Loop};
+use crate::images::{self, Long, Loop, LONG};
 use crate::mixed;
 use crate::sides::{Compared, Sides};
 use std::time::Instant;
@@ -86,15 +86,20 @@ fn time_loops(loops: &[Loop]) -> Compared<()> {
 }
 
 fn time_load(one: &Long) -> Compared<()> {
-    let mut sides = begun(&one.image, &[])?;
+    let map = vec![0; one.image.len()];
+    let mut sides = Sides::new(&one.image, map, Vec::new(), Vec::new());
+    let number = sides.load()?;
+    if number != one.number {
+        return Err(format!("load answers {number}, not {}", one.number));
+    }
     let Sides {
         image,
         ours,
         theirs,
     } = &mut sides;
     let times = least_times(
-        || assert_eq!(cembuxola::c::load(image, &mut ours.map), 0),
-        || assert_eq!(second::load(image, &mut theirs.map), 0),
+        || assert_eq!(ours.load(image).0, number),
+        || assert_eq!(u16::from(theirs.load(image).number), number),
     );
     let speed = times.map(|time| image.len() as f64 / time / 1e6);
     line(one.name, "MB/s", speed, times[0] / times[1]);
@@ -113,12 +118,16 @@ fn time_tests(one: &Long) -> Compared<()> {
     Ok(())
 }
 
+/// A line for each image.
+fn time_each(images: &[Long], time: fn(&Long) -> Compared<()>) -> Compared<()> {
+    for one in images {
+        time(one).map_err(|error| format!("{}: {error}", one.name))?;
+    }
+    Ok(())
+}
+
 /// Prints a line for each image; the first difference between the sides is an error.
 pub fn speed() -> Compared<()> {
-    let of = |name: &str| {
-        let name = name.to_string();
-        move |error: String| format!("{name}: {error}")
-    };
     let long = images::long_images();
     println!(
         "{:28} {:>9} {:>9} {:8} {:>6}",
@@ -129,12 +138,13 @@ pub fn speed() -> Compared<()> {
     println!("steps of mixed programs");
     time_loops(&mixed::programs(mixed::SEED))?;
     println!("load");
-    for one in &long {
-        time_load(one).map_err(of(one.name))?;
-    }
+    time_each(&long, time_load)?;
+    println!("load, refused with 13 where the code ends");
+    time_each(&images::broken_images(LONG), time_load)?;
+    println!("load, refused with 13 where the code ends, a quarter as long");
+    time_each(&images::broken_images(LONG / 4), time_load)?;
+    println!("load, refused with 8 where the code ends");
+    time_each(&images::unfit_images(LONG), time_load)?;
     println!("run with n = 1: the tests of the image and the map");
-    for one in &long {
-        time_tests(one).map_err(of(one.name))?;
-    }
-    Ok(())
+    time_each(&long, time_tests)
 }

@@ -1,5 +1,6 @@
 /* reading FILE: the desk's reading of an image, in C: load, start and one run with W = 4,096, inputs 0, outputs first 0 and n = 1,000.
- * Prints the stop and the outputs, or `refused` and the number. examples/c/build builds it. */
+ * Prints the stop and the outputs, or `refused` and the number; where code is not whole, standard error says at which place.
+ * examples/c/build builds it. */
 #include <stdio.h>
 
 #include "cembuxola.h"
@@ -11,6 +12,7 @@
 
 static uint8_t image[MOST_BYTES];
 static uint8_t map[MOST_BYTES];
+static uint16_t place[CEMBUXOLA_PLACE_WORDS];
 static uint16_t store[WORDS];
 static uint16_t machine[CEMBUXOLA_MACHINE_WORDS];
 static uint16_t outputs[CEMBUXOLA_CHANNELS];
@@ -23,9 +25,17 @@ static int refused(unsigned number)
     return 0;
 }
 
-static int read_and_run(size_t length)
+static void say_place(const char *name)
 {
-    unsigned number = cembuxola_load(image, length, map, MOST_BYTES);
+    fprintf(stderr, "%s: refused %u: the code is not whole (module %u, position %u)\n", name, (unsigned)CEMBUXOLA_NOT_WHOLE,
+            (unsigned)place[0], (unsigned)place[1]);
+}
+
+static int read_and_run(const char *name, size_t length)
+{
+    unsigned number = cembuxola_load(image, length, map, MOST_BYTES, place, CEMBUXOLA_PLACE_WORDS);
+    if (number == CEMBUXOLA_NOT_WHOLE)
+        say_place(name);
     if (number != CEMBUXOLA_ACCEPTED)
         return refused(number);
     number = cembuxola_start(image, length, store, WORDS, machine, CEMBUXOLA_MACHINE_WORDS);
@@ -60,5 +70,5 @@ int main(int count, char **arguments)
         return 2;
     }
     fclose(file);
-    return read_and_run(length);
+    return read_and_run(arguments[1], length);
 }

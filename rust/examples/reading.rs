@@ -1,6 +1,7 @@
-//! reading FILE: the desk's reading of an image, by the wrapper: W = 4,096, inputs 0, outputs first 0, n = 1,000.
+//! reading FILE: the desk's reading of an image, by the wrapper: W = 4,096, inputs 0, outputs first 0, n = 1,000. Where code is not whole,
+//! standard error says at which place.
 
-use cembuxola::{Cabinet, CHANNELS};
+use cembuxola::{Cabinet, Refusal, CHANNELS};
 use std::process::ExitCode;
 
 fn main() -> ExitCode {
@@ -18,9 +19,16 @@ fn main() -> ExitCode {
     };
     match Cabinet::new(&image, 4096) {
         Ok(cabinet) => print_reading(cabinet),
-        Err(refusal) => println!("refused {}", refusal.number()),
+        Err(refusal) => print_refusal(&file, refusal),
     }
     ExitCode::SUCCESS
+}
+
+fn print_refusal(file: &str, refusal: Refusal) {
+    if let Refusal::NotWhole(_) = refusal {
+        eprintln!("{file}: {refusal}");
+    }
+    println!("refused {}", refusal.number());
 }
 
 fn print_reading(mut cabinet: Cabinet) {

@@ -1,6 +1,6 @@
 //! The functions of include/cembuxola.h, over slices. They ask nothing of the lengths and contents: every one is answered with a number.
 
-use crate::{ANSWER_NUMBERS, MACHINE_WORDS};
+use crate::{ANSWER_NUMBERS, MACHINE_WORDS, PLACE_WORDS};
 
 extern "C" {
     fn cembuxola_load(
@@ -8,6 +8,8 @@ extern "C" {
         image_length: usize,
         map: *mut u8,
         map_length: usize,
+        place: *mut u16,
+        place_length: usize,
     ) -> u16;
     fn cembuxola_start(
         image: *const u8,
@@ -36,10 +38,19 @@ extern "C" {
     ) -> u16;
 }
 
-/// Load: 0, or a refusal 1 to 8.
-pub fn load(image: &[u8], map: &mut [u8]) -> u16 {
-    // SAFETY: each pointer and length are those of a slice, and the slice that is written overlaps no other.
-    unsafe { cembuxola_load(image.as_ptr(), image.len(), map.as_mut_ptr(), map.len()) }
+/// Load: 0, or a refusal 1 to 8 or 13, or 20 where the place has not [`PLACE_WORDS`] words.
+pub fn load(image: &[u8], map: &mut [u8], place: &mut [u16]) -> u16 {
+    // SAFETY: each pointer and length are those of a slice, and a slice that is written overlaps no other.
+    unsafe {
+        cembuxola_load(
+            image.as_ptr(),
+            image.len(),
+            map.as_mut_ptr(),
+            map.len(),
+            place.as_mut_ptr(),
+            place.len(),
+        )
+    }
 }
 
 /// Start: 0, or a refusal 1 to 6, 9, or 20 where the machine has not [`MACHINE_WORDS`] words.
@@ -91,4 +102,4 @@ pub fn run(
     }
 }
 
-const _: () = assert!(MACHINE_WORDS == 24 && ANSWER_NUMBERS == 2);
+const _: () = assert!(PLACE_WORDS == 2 && MACHINE_WORDS == 24 && ANSWER_NUMBERS == 2);

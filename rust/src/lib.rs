@@ -9,8 +9,10 @@
 pub mod c;
 mod numbers;
 
-pub use numbers::{Refusal, Stop};
+pub use numbers::{Place, Refusal, Stop};
 
+/// The words of a load's place: module and position.
+pub const PLACE_WORDS: usize = 2;
 /// The words of a machine.
 pub const MACHINE_WORDS: usize = 24;
 /// The numbers of a run's answer: count and code.
@@ -55,9 +57,11 @@ pub struct Ran {
     pub count: u32,
 }
 
-/// Tests an image and fills its map, which is as long as the image or longer.
+/// Tests an image and fills its map, which is as long as the image or longer. Where the code is not whole, the refusal has the place.
 pub fn load(image: &[u8], map: &mut [u8]) -> Result<(), Refusal> {
-    Refusal::accepted(c::load(image, map))
+    let mut place = [0; PLACE_WORDS];
+    let number = c::load(image, map, &mut place);
+    Refusal::loaded(number, place)
 }
 
 /// Clears the store and makes the machine that stands at procedure 0 of module 0.

@@ -1,50 +1,69 @@
 //! The numbers of refusals and stops, with their words.
 
+use crate::PLACE_WORDS;
 use std::fmt;
 
-/// Why a call was refused. Nothing was changed, but for the map at [`Refusal::NoDepths`].
+/// Why a call was refused. Nothing was changed, but for the map at [`Refusal::NoDepths`] and [`Refusal::NotWhole`].
 #[derive(Clone, Copy, Debug, PartialEq, Eq, Hash)]
-#[repr(u16)]
 pub enum Refusal {
-    ImageSize = 1,
-    ModuleCount = 2,
-    ImageEnds = 3,
-    BytesAfter = 4,
-    BitMap = 5,
-    Field = 6,
-    MapShort = 7,
-    NoDepths = 8,
-    StoreSize = 9,
-    ChannelCount = 10,
-    NotAMachine = 11,
-    MapUnfit = 12,
+    ImageSize,
+    ModuleCount,
+    ImageEnds,
+    BytesAfter,
+    BitMap,
+    Field,
+    MapShort,
+    NoDepths,
+    StoreSize,
+    ChannelCount,
+    NotAMachine,
+    MapUnfit,
+    /// Of load, with the first module that is not whole and the lowest position at fault in it.
+    NotWhole(Place),
 }
 
-const REFUSALS: [(Refusal, &str); 12] = [
-    (Refusal::ImageSize, "image of 0 or over 65,535 bytes"),
-    (Refusal::ModuleCount, "module count 0 or over 32"),
-    (Refusal::ImageEnds, "image ends inside a part"),
-    (Refusal::BytesAfter, "bytes after the last module"),
-    (Refusal::BitMap, "bit 3 to 7 of a bit map"),
-    (Refusal::Field, "a field out of range"),
-    (Refusal::MapShort, "map shorter than image"),
-    (Refusal::NoDepths, "no depths fit"),
-    (Refusal::StoreSize, "W below Z + 36 or over 65,535"),
-    (Refusal::ChannelCount, "inputs or outputs not 16 words"),
-    (Refusal::NotAMachine, "not a machine"),
-    (Refusal::MapUnfit, "map does not fit"),
+/// A position in a module's code.
+#[derive(Clone, Copy, Debug, PartialEq, Eq, Hash)]
+pub struct Place {
+    pub module: u16,
+    pub position: u16,
+}
+
+/// The refusals without a place, with their numbers and words.
+const REFUSALS: [(Refusal, u16, &str); 12] = [
+    (Refusal::ImageSize, 1, "image of 0 or over 65,535 bytes"),
+    (Refusal::ModuleCount, 2, "module count 0 or over 32"),
+    (Refusal::ImageEnds, 3, "image ends inside a part"),
+    (Refusal::BytesAfter, 4, "bytes after the last module"),
+    (Refusal::BitMap, 5, "bit 3 to 7 of a bit map"),
+    (Refusal::Field, 6, "a field out of range"),
+    (Refusal::MapShort, 7, "map shorter than image"),
+    (Refusal::NoDepths, 8, "no depths fit the code, which is whole"),
+    (Refusal::StoreSize, 9, "W below Z + 36 or over 65,535"),
+    (Refusal::ChannelCount, 10, "inputs or outputs not 16 words"),
+    (Refusal::NotAMachine, 11, "not a machine"),
+    (Refusal::MapUnfit, 12, "map does not fit"),
 ];
+
+const NOT_WHOLE: (u16, &str) = (13, "the code is not whole");
 
 impl Refusal {
     /// The number of the C functions.
     pub fn number(self) -> u16 {
-        self as u16
+        self.numbered_words().0
     }
 
-    /// The refusal of a number that a C function answered to this wrapper: never 20, since a machine's words and the answer's numbers
-    /// are as many as they must be.
+    fn numbered_words(self) -> (u16, &'static str) {
+        match REFUSALS.iter().find(|row| row.0 == self) {
+            Some(&(_, number, words)) => (number, words),
+            None => NOT_WHOLE,
+        }
+    }
+
+    /// The refusal of a number other than 13 that a C function answered to this wrapper: never 20, since a place's and a machine's words
+    /// and the answer's numbers are as many as they must be.
     pub(crate) fn numbered(number: u16) -> Refusal {
-        let row = REFUSALS.iter().find(|row| row.0.number() == number);
+        let row = REFUSALS.iter().find(|row| row.1 == number);
         row.unwrap_or_else(|| panic!("{number} is no refusal")).0
     }
 
@@ -55,16 +74,35 @@ impl Refusal {
             _ => Err(Refusal::numbered(number)),
         }
     }
+
+    /// Of load, with the place that it wrote.
+    pub(crate) fn loaded(number: u16, place: [u16; PLACE_WORDS]) -> Result<(), Refusal> {
+        let [module, position] = place;
+        if number == NOT_WHOLE.0 {
+            return Err(Refusal::NotWhole(Place { module, position }));
+        }
+        Refusal::accepted(number)
+    }
 }
 
 impl fmt::Display for Refusal {
     fn fmt(&self, f: &mut fmt::Formatter) -> fmt::Result {
-        let words = REFUSALS[usize::from(self.number()) - 1].1;
-        write!(f, "refused {}: {words}", self.number())
+        let (number, words) = self.numbered_words();
+        write!(f, "refused {number}: {words}")?;
+        match self {
+            Refusal::NotWhole(place) => write!(f, " ({place})"),
+            _ => Ok(()),
+        }
     }
 }
 
 impl std::error::Error for Refusal {}
+
+impl fmt::Display for Place {
+    fn fmt(&self, f: &mut fmt::Formatter) -> fmt::Result {
+        write!(f, "module {}, position {}", self.module, self.position)
+    }
+}
 
 /// How a run stopped. A trap and an end leave everything as before their instruction, at which the machine stands.
 #[derive(Clone, Copy, Debug, PartialEq, Eq, Hash)]

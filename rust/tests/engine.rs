@@ -1,6 +1,8 @@
 //! The wrapper over the proved library: the paper's marked cases, every refusal, and the buffers that a refusal leaves alone.
 
-use cembuxola::{load, run, start, Cabinet, Machine, Ran, Refusal, Stop, CHANNELS, MACHINE_WORDS};
+use cembuxola::{
+    c, load, run, start, Cabinet, Machine, Place, Ran, Refusal, Stop, CHANNELS, MACHINE_WORDS,
+};
 
 /// "Image (hex) 01 00 00 04 02 07 A1 EC".
 const READING: [u8; 8] = [0x01, 0x00, 0x00, 0x04, 0x02, 0x07, 0xA1, 0xEC];
@@ -10,6 +12,10 @@ const INPUTS: [u16; CHANNELS] = [0; CHANNELS];
 fn image(code: &[u8]) -> Vec<u8> {
     let length = (code.len() as u16).to_be_bytes();
     [&[1, 0], &length[..], code].concat()
+}
+
+fn not_whole(module: u16, position: u16) -> Refusal {
+    Refusal::NotWhole(Place { module, position })
 }
 
 fn stopped(code: &[u8], n: u32) -> (Ran, Cabinet) {
@@ -36,7 +42,7 @@ fn the_papers_reading() {
 #[test]
 fn marked_cases() {
     let refused = |code: &[u8]| Cabinet::new(&image(code), 4096).unwrap_err();
-    assert_eq!(refused(&[0x02]), Refusal::NoDepths);
+    assert_eq!(refused(&[0x02]), not_whole(0, 0));
     assert_eq!(
         refused(&[&[0; 17][..], &[0xC4]].concat()),
         Refusal::NoDepths
@@ -84,8 +90,147 @@ fn what_a_refused_load_leaves() {
     let mut map = [9; 10];
     assert_eq!(load(&[1, 0, 0, 1], &mut map), Err(Refusal::ImageEnds));
     assert_eq!(map, [9; 10]);
-    assert_eq!(load(&image(&[2]), &mut map), Err(Refusal::NoDepths));
+    assert_eq!(load(&image(&[2]), &mut map[..4]), Err(Refusal::MapShort));
+    assert_eq!(map, [9; 10]);
+    assert_eq!(load(&image(&[2]), &mut map), Err(not_whole(0, 0)));
     assert_eq!(map, [255, 255, 255, 255, 255, 9, 9, 9, 9, 9]);
+    assert_eq!(
+        load(&image(&[0xA1, 0xEC]), &mut map),
+        Err(Refusal::NoDepths)
+    );
+    assert_eq!(map, [255, 255, 255, 255, 255, 255, 9, 9, 9, 9]);
+}
+
+/// What load answers to an image, with a map of its length.
+fn loaded(image: &[u8]) -> Result<(), Refusal> {
+    load(image, &mut vec![0; image.len()])
+}
+
+#[test]
+fn code_is_not_whole_by_each_cause() {
+    let cases: [(&[u8], u16); 16] = [
+        (&[0x02, 0x11], 1),             // an unlisted opcode
+        (&[0x02, 0x10], 1),             // operands outside the code: the only one,
+        (&[0x12, 1], 0),                // the second of two,
+        (&[0x02, 0x13, 0, 0, 0], 1),    // the fourth of four
+        (&[0x02, 0x22, 1, 4, 0xC4], 1), // a missing module: of a load,
+        (&[0x02, 0x33, 1, 4, 0xC4], 1), // of a store of a pair,
+        (&[0x02, 0xED, 1, 0, 0xC4], 1), // of a call
+        (&[0x02, 0xED, 0, 1, 0xC4], 1), // a missing procedure: of a named module,
+        (&[0x02, 0xF0, 1, 0xC4], 1),    // of this one by a byte,
+        (&[0x02, 0xEE, 1, 0xC4], 1),    // with a link,
+        (&[0x02, 0xF1, 0xC4], 1),       // by the opcode
+        (&[0x02], 0),                   // a successor outside the code: the next position,
+        (&[0x02, 0x1B, 2, 0xC4], 1),    // a target behind it,
+        (&[0x02, 0x1D, 3, 0xC4], 1),    // a target before it,
+        (&[0x02, 0x1A, 2, 0xC4], 1),    // the target of a fork,
+        (&[0x02, 0x1C, 2], 1),          // the next position of a fork
+    ];
+    for (code, position) in cases {
+        assert_eq!(
+            loaded(&image(code)),
+            Err(not_whole(0, position)),
+            "{code:x?}"
+        );
+    }
+}
+
+#[test]
+fn code_that_is_just_whole() {
+    let accepted: [&[u8]; 4] = [
+        &[0x02, 0x13, 0, 0, 0, 0, 0xC4], // four operands
+        &[0x02, 0x1B, 1, 0xC4],          // a target that is the last position
+        &[0x02, 0x1D, 1],                // a target that is the jump itself
+        &[0xEC, 0x11],                   // an unlisted opcode that is not reached
+    ];
+    for code in accepted {
+        assert_eq!(loaded(&image(code)), Ok(()), "{code:x?}");
+    }
+    let unfit: [&[u8]; 4] = [
+        &[0xA1, 0xEC],             // two words taken of none
+        &[0x02, 0xED, 0, 0, 0xC4], // a call with a word too many
+        &[0x00, 0x1D, 0x02],       // one position with two depths,
+        &[0x02, 0x1E, 1, 0xC4],    // by both ways of a fork
+    ];
+    for code in unfit {
+        assert_eq!(loaded(&image(code)), Err(Refusal::NoDepths), "{code:x?}");
+    }
+}
+
+#[test]
+fn the_first_module_and_the_lowest_position() {
+    // a fault at 4 is found first, one at 2 only behind it
+    let back = [0x1B, 3, 0x11, 0, 0xED, 9, 0, 0x1D, 6];
+    assert_eq!(loaded(&image(&back)), Err(not_whole(0, 2)));
+    assert_eq!(
+        loaded(&image(&[0x1A, 3, 0x1B, 4, 0xE0])),
+        Err(not_whole(0, 2))
+    );
+    // the depths of module 0 do not fit, but module 1 is not whole
+    let later = [2, 0, 0, 3, 0x00, 0x1D, 0x02, 0, 0, 1, 0x02];
+    assert_eq!(loaded(&later), Err(not_whole(1, 0)));
+    // both modules are not whole
+    let both = [2, 0, 0, 2, 0x02, 0x11, 0, 0, 1, 0x11];
+    assert_eq!(loaded(&both), Err(not_whole(0, 1)));
+    // procedure 1 is called by nobody
+    let uncalled = [1, 2, 2, 0, 2, 0, 0, 0, 0, 0, 1, 0, 0, 0xEC, 0x11];
+    assert_eq!(loaded(&uncalled), Err(not_whole(0, 1)));
+    // of 32 modules the last one, at a position of two bytes
+    let whole = [&[32][..], &[0, 0, 1, 0xEC].repeat(31)].concat();
+    let last = [&whole[..], &[0, 1, 44], &[0xDE; 300]].concat();
+    assert_eq!(loaded(&last), Err(not_whole(31, 299)));
+}
+
+#[test]
+fn code_is_followed_without_regard_to_depth() {
+    // 17 words, of which 16 have room, and then an unlisted opcode
+    let deep = [&[0; 17][..], &[0x11]].concat();
+    assert_eq!(loaded(&image(&deep)), Err(not_whole(0, 17)));
+    // two words taken of none, and then one left at the end
+    assert_eq!(loaded(&image(&[0xA1, 0x02])), Err(not_whole(0, 1)));
+}
+
+#[test]
+fn the_place_is_zeros_but_for_13() {
+    let long = [1; 65_536];
+    let after = [&READING[..], &[0]].concat();
+    let cases: [(&[u8], usize, [u16; 3]); 13] = [
+        (&READING, 8, [0, 0, 0]),
+        (&[], 0, [1, 0, 0]),
+        (&long, 65_536, [1, 0, 0]),
+        (&[0], 1, [2, 0, 0]),
+        (&READING[..7], 7, [3, 0, 0]),
+        (&after, 9, [4, 0, 0]),
+        (&[1, 8, 0, 1, 0xEC], 5, [5, 0, 0]),
+        (&[1, 0, 0, 0], 4, [6, 0, 0]),
+        (&READING, 7, [7, 0, 0]),
+        (&[1, 0, 0, 1, 0x02], 4, [7, 0, 0]),
+        (&[1, 0, 0, 3, 0x00, 0x1D, 0x02], 7, [8, 0, 0]),
+        (&[1, 0, 0, 1, 0x02], 5, [13, 0, 0]),
+        (&[2, 0, 0, 1, 0xEC, 0, 0, 3, 2, 2, 0x11], 11, [13, 1, 2]),
+    ];
+    for (image, map, expected) in cases {
+        let mut place = [0xABCD, 0x1234];
+        let number = c::load(image, &mut vec![9; map], &mut place);
+        assert_eq!([number, place[0], place[1]], expected);
+    }
+}
+
+#[test]
+fn a_place_of_another_length_is_answered_before_all_else() {
+    let images: [&[u8]; 4] = [
+        &READING,
+        &[],
+        &[1, 0, 0, 1, 0x02],
+        &[1, 0, 0, 2, 0xA1, 0xEC],
+    ];
+    for image in images {
+        for words in [0, 1, 3] {
+            let (mut map, mut place) = ([9; 10], vec![0xABCD; words]);
+            assert_eq!(c::load(image, &mut map, &mut place), 20);
+            assert_eq!((map, place), ([9; 10], vec![0xABCD; words]));
+        }
+    }
 }
 
 #[test]
@@ -190,7 +335,11 @@ fn running_in_parts_is_running_at_once() {
 
 #[test]
 fn words_for_people() {
-    assert_eq!(Refusal::NoDepths.to_string(), "refused 8: no depths fit");
+    assert_eq!(Refusal::NoDepths.to_string(), "refused 8: no depths fit the code, which is whole");
+    assert_eq!(
+        not_whole(1, 299).to_string(),
+        "refused 13: the code is not whole (module 1, position 299)"
+    );
     assert_eq!(Stop::ReturnMark.to_string(), "return mark");
     assert_eq!(Stop::Program(3).to_string(), "program, code 3");
     assert_eq!(Stop::Program(3).number(), 40);

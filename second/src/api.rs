@@ -5,6 +5,29 @@ use crate::exec::{self, Lent, Observer};
 use crate::image::{self, Program};
 use crate::machine::{self, Machine};
 use crate::number;
+use crate::walk;
+
+/// What load answers.
+#[derive(Clone, Copy, Debug, PartialEq, Eq)]
+pub struct LoadAnswer {
+    /// 0, or a refusal 1 to 8 or 13.
+    pub number: u8,
+    /// Where the code is not whole, for 13. Module and position "are both 0 in
+    /// any other answer of load".
+    pub module: u8,
+    pub position: u16,
+}
+
+impl LoadAnswer {
+    /// Any answer but 13.
+    fn without_place(number: u8) -> LoadAnswer {
+        LoadAnswer {
+            number,
+            module: 0,
+            position: 0,
+        }
+    }
+}
 
 /// What run answers. A refused run answers its number, code 0, count 0 and
 /// the machine as given.
@@ -19,20 +42,29 @@ pub struct RunAnswer {
     pub machine: Machine,
 }
 
-/// Tests an image and fills the map: 0, or a refusal 1 to 8. Refusal 8 leaves
-/// the map "FF over the image's length"; the others leave it alone.
-pub fn load(image: &[u8], map: &mut [u8]) -> u8 {
+/// Tests an image and fills the map: 0, or a refusal 1 to 7, then 13, then 8.
+/// Refusals 13 and 8 leave the map "FF over the image's length"; the others
+/// leave it alone.
+pub fn load(image: &[u8], map: &mut [u8]) -> LoadAnswer {
     let program = match image::parse(image) {
         Ok(program) => program,
-        Err(refusal) => return refusal,
+        Err(refusal) => return LoadAnswer::without_place(refusal),
     };
     if map.len() < image.len() {
-        return number::MAP_SHORT;
+        return LoadAnswer::without_place(number::MAP_SHORT);
+    }
+    if let Some(fault) = walk::first_fault(&program, image) {
+        map[..image.len()].fill(depths::UNMARKED);
+        return LoadAnswer {
+            number: number::NOT_WHOLE,
+            module: fault.module as u8,
+            position: fault.position as u16,
+        };
     }
     if !depths::assign(&program, image, map) {
-        return number::NO_DEPTHS;
+        return LoadAnswer::without_place(number::NO_DEPTHS);
     }
-    number::ACCEPTED
+    LoadAnswer::without_place(number::ACCEPTED)
 }
 
 /// Clears and sets the store: 0 and the first machine, or a refusal 1 to 6 or
@@ -135,7 +167,7 @@ pub fn desk(image: &[u8]) -> String {
     let refused = |refusal: u8| format!("refused {refusal}\n");
 
     let mut map = vec![depths::UNMARKED; image.len()];
-    let refusal = load(image, &mut map);
+    let refusal = load(image, &mut map).number;
     if refusal != number::ACCEPTED {
         return refused(refusal);
     }

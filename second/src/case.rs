@@ -36,7 +36,7 @@
 //! outputs has more than [`MOST_CHANNELS`] words. Patches lie inside their
 //! buffers.
 
-use crate::api::{self, Buffers, RunAnswer};
+use crate::api::{self, Buffers, LoadAnswer, RunAnswer};
 use crate::exec::Observer;
 use crate::machine::Machine;
 use std::fmt;
@@ -92,7 +92,7 @@ impl fmt::Display for Checksum {
 /// What the second interpreter says about a case.
 #[derive(Clone, Debug, PartialEq, Eq)]
 pub struct Outcome {
-    pub load: u8,
+    pub load: LoadAnswer,
     /// The whole map after load.
     pub map: Vec<u8>,
     pub start: u8,
@@ -206,8 +206,10 @@ impl fmt::Display for Outcome {
     fn fmt(&self, f: &mut fmt::Formatter) -> fmt::Result {
         writeln!(
             f,
-            "load {} map {} start {} store {} {}",
-            self.load,
+            "load {} place {} {} map {} start {} store {} {}",
+            self.load.number,
+            self.load.module,
+            self.load.position,
             Hex(&self.map),
             self.start,
             self.store,

@@ -1,5 +1,5 @@
-//! What generated cases reach: opcodes, traps of opcodes, refusals, and what A.2
-//! makes of result counts.
+//! What generated cases reach: opcodes, traps of opcodes, refusals, what A.2
+//! makes of result counts, and what A.3 makes of code that is not whole.
 
 use crate::case::{replay, Case};
 use crate::exec::Observer;
@@ -9,6 +9,7 @@ use crate::number::*;
 use crate::opcode::{self, row, PAIRS};
 use crate::pair::first_address;
 use crate::results::Results;
+use crate::whole::Whole;
 use std::fmt::Write;
 
 /// Counts of what was reached.
@@ -20,11 +21,21 @@ pub struct Coverage {
     /// Stops with 32 of each load and store of a pair, by [`FAILING`].
     pairs: [[u64; 3]; 256],
     spent: u64,
-    load: [u64; 13],
-    start: [u64; 13],
-    run: [u64; 13],
+    load: [u64; ANSWERS],
+    start: [u64; ANSWERS],
+    run: [u64; ANSWERS],
     results: Results,
+    whole: Whole,
     cases: u64,
+}
+
+/// A line of the report: what was reached, its kinds and their counts.
+pub type Line = (&'static str, Vec<(String, u64)>);
+
+/// The kinds of a line, with these names.
+pub fn named<T: ToString>(names: &[T], counts: &[u64]) -> Vec<(String, u64)> {
+    let names = names.iter().map(|name| name.to_string());
+    names.zip(counts.iter().copied()).collect()
 }
 
 impl Observer for [u64; 256] {
@@ -33,8 +44,11 @@ impl Observer for [u64; 256] {
     }
 }
 
+/// 0 and the refusals 1 to 13.
+const ANSWERS: usize = 14;
+
 /// Refusals that each call can answer, with 0 where it accepts.
-const LOAD: [u8; 9] = [0, 1, 2, 3, 4, 5, 6, 7, 8];
+const LOAD: [u8; 10] = [0, 1, 2, 3, 4, 5, 6, 7, 8, 13];
 const START: [u8; 8] = [0, 1, 2, 3, 4, 5, 6, 9];
 const RUN: [u8; 11] = [1, 2, 3, 4, 5, 6, 7, 9, 10, 11, 12];
 
@@ -86,10 +100,11 @@ impl Coverage {
             stops: [[0; 10]; 256],
             pairs: [[0; 3]; 256],
             spent: 0,
-            load: [0; 13],
-            start: [0; 13],
-            run: [0; 13],
+            load: [0; ANSWERS],
+            start: [0; ANSWERS],
+            run: [0; ANSWERS],
             results: Results::default(),
+            whole: Whole::default(),
             cases: 0,
         };
         cases.for_each(|case| coverage.add(&case));
@@ -99,9 +114,10 @@ impl Coverage {
     fn add(&mut self, case: &Case) {
         self.cases += 1;
         let outcome = replay(case, &mut self.steps);
-        self.load[usize::from(outcome.load)] += 1;
+        self.load[usize::from(outcome.load.number)] += 1;
         self.start[usize::from(outcome.start)] += 1;
         self.results.add(case, &outcome);
+        self.whole.add(case, &outcome);
         for run in outcome.runs {
             let answer = run.answer;
             match answer.number {
@@ -152,7 +168,7 @@ impl Coverage {
             }
         }
         faults.extend(self.pair_faults());
-        faults.extend(self.results.faults());
+        faults.extend(self.missing_kinds());
         if self.spent == 0 {
             faults.push("no run stopped with 30".into());
         }
@@ -168,6 +184,20 @@ impl Coverage {
                     _ => {}
                 }
             }
+        }
+        faults
+    }
+
+    /// What was reached of A.2 and A.3.
+    fn kinds(&self) -> impl Iterator<Item = Line> {
+        self.results.lines().into_iter().chain(self.whole.lines())
+    }
+
+    fn missing_kinds(&self) -> Vec<String> {
+        let mut faults = Vec::new();
+        for (reached, kinds) in self.kinds() {
+            let missing = kinds.iter().filter(|(_, count)| *count == 0);
+            faults.extend(missing.map(|(kind, _)| format!("no {reached} {kind}")));
         }
         faults
     }
@@ -200,7 +230,7 @@ impl Coverage {
             }
             text.push('\n');
         };
-        let numbers = |possible: &[u8], counts: &[u64; 13]| {
+        let numbers = |possible: &[u8], counts: &[u64; ANSWERS]| {
             let pair = |&number: &u8| (number.to_string(), counts[usize::from(number)]);
             possible.iter().map(pair).collect()
         };
@@ -221,7 +251,7 @@ impl Coverage {
             let title = format!("pairs stopped with 32 {failing}");
             line(&title, PAIRS.map(pair).to_vec());
         }
-        for (reached, kinds) in self.results.lines() {
+        for (reached, kinds) in self.kinds() {
             line(reached, kinds);
         }
         let listed: Vec<u8> = opcode::listed().collect();

@@ -105,7 +105,7 @@ pub fn position_fits(
 
 /// "Jumps, from the operand's first byte"; a target below 0 becomes one past
 /// any code.
-fn jump_target(code: &[u8], position: usize) -> usize {
+pub fn jump_target(code: &[u8], position: usize) -> usize {
     let origin = position + 1;
     let byte = usize::from(code[origin]);
     match code[position] {
@@ -118,8 +118,9 @@ fn jump_target(code: &[u8], position: usize) -> usize {
     }
 }
 
-/// Marks the fewest positions of an image, or none at all: false is refusal 8.
-/// Writes every one of the map's first `image.len()` bytes and no other.
+/// Marks the fewest positions of an image, or none at all: false is refusal 8,
+/// where the code is whole. Writes every one of the map's first `image.len()`
+/// bytes and no other.
 pub fn assign(program: &Program, image: &[u8], map: &mut [u8]) -> bool {
     let map = &mut map[..image.len()];
     map.fill(UNMARKED);
@@ -133,6 +134,13 @@ pub fn assign(program: &Program, image: &[u8], map: &mut [u8]) -> bool {
         }
     }
     true
+}
+
+/// Whether depths fit in one module.
+pub fn has_depths(program: &Program, image: &[u8], module: usize) -> bool {
+    let code = &image[program.modules[module].code_range()];
+    let mut part = vec![UNMARKED; code.len()];
+    assign_module(program, module, code, &mut part, &mut Vec::new())
 }
 
 /// "Load hands the depth check each module's part of the map, to be filled

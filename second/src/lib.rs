@@ -1,5 +1,5 @@
 //! A second interpreter of M-code, written from the paper and its change
-//! requests A.1 and A.2 alone, against which another engine is compared.
+//! requests A.1 to A.3 alone, against which another engine is compared.
 //!
 //! [`load`], [`start`] and [`run`] are the paper's calls, [`desk`] is its "A
 //! whole reading". Octal literals are the paper's opcodes, and quotations in
@@ -20,6 +20,8 @@ pub mod number;
 pub mod opcode;
 pub mod pair;
 pub mod results;
+pub mod walk;
+pub mod whole;
 
-pub use api::{desk, load, run, start, RunAnswer};
+pub use api::{desk, load, run, start, LoadAnswer, RunAnswer};
 pub use machine::Machine;

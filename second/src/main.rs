@@ -1,7 +1,9 @@
 //! The command line of the second interpreter.
 
 use second::assemble::{encode, Source};
-use second::{case, coverage::Coverage, gen, load};
+use second::image::parse;
+use second::walk::{first_fault, Fault};
+use second::{case, coverage::Coverage, gen, load, number};
 use std::ffi::{OsStr, OsString};
 use std::fs::File;
 use std::io::{self, Read, Write};
@@ -14,11 +16,12 @@ A second interpreter of M-code.
 usage: second reading [FILE]
            print the desk's reading of an image, from FILE or standard input
        second map FILE
-           print load's number and, if it accepts, the map in hex: a byte is
+           print load's number; for 13 also the module, the position and the
+           cause; and if it accepts, the map in hex: a byte is
            depth + 17 * results, or FF where unmarked
        second coverage [--small] [--seed N] [--cases N]
            replay generated cases and print what they reach; exit 1 if an
-           opcode, a stop, a refusal or a kind of A.2 is missing
+           opcode, a stop, a refusal or a kind of A.2 or A.3 is missing
        second coverage CASES
            the same for the cases of a file
        second cases [--small] [--seed N] [--count N] OUT
@@ -103,9 +106,9 @@ fn read_image(from: impl Read, name: &str) -> Result<Vec<u8>, String> {
 
 fn print_map(image: &[u8]) -> Answer {
     let mut map = vec![0; image.len()];
-    let number = load(image, &mut map);
-    let mut text = format!("load {number}\n");
-    if number == 0 {
+    let answer = load(image, &mut map);
+    let mut text = format!("load {}{}\n", answer.number, fault_text(image));
+    if answer.number == number::ACCEPTED {
         for row in map.chunks(16) {
             let row: Vec<String> = row.iter().map(|byte| format!("{byte:02X}")).collect();
             text += &row.join(" ");
@@ -113,6 +116,21 @@ fn print_map(image: &[u8]) -> Answer {
         }
     }
     print(&text)
+}
+
+/// Where the code is not whole, and why; nothing where it is, or where the image
+/// is refused with 1 to 6.
+fn fault_text(image: &[u8]) -> String {
+    let fault = parse(image).map(|program| first_fault(&program, image));
+    let Ok(Some(fault)) = fault else {
+        return String::new();
+    };
+    let Fault {
+        module,
+        position,
+        cause,
+    } = fault;
+    format!(" module {module} position {position}: {cause}")
 }
 
 /// The options for generated cases, and the other arguments.
@@ -220,28 +238,41 @@ fn least_time(mut work: impl FnMut()) -> f64 {
     (0..10).map(time).fold(f64::INFINITY, f64::min)
 }
 
-/// Times the loop `LLW4 LI1 UADD SLW4 JPB`, and load and run's tests of one of
-/// the longest images.
+/// Times the loop `LLW4 LI1 UADD SLW4 JPB`, and load, a refusal of load and run's
+/// tests of one of the longest images.
 fn speed() -> Answer {
     const STEPS: u32 = 20_000_000;
     let code = [0o353, 1, 0o044, 0o001, 0o270, 0o064, 0o035, 5];
     let step = time_run(&[Source::plain(&code)], STEPS).1 / f64::from(STEPS);
     let mut code = vec![0o336; 32_761];
     code[32_760] = 0o354;
-    let (load, tests) = time_run(&[Source::plain(&code), Source::plain(&code)], 0);
+    let modules = [Source::plain(&code), Source::plain(&code)];
+    let (load, tests) = time_run(&modules, 0);
+    let refusal = time_refusal(&modules);
     print(&format!(
-        "step {:.2} ns\nload of 65,529 bytes {:.0} us\nrun's tests of them {:.0} us\n",
+        "step {:.2} ns\nload of 65,529 bytes {:.0} us\nits refusal with 13 {:.0} us\n\
+         run's tests of them {:.0} us\n",
         step * 1e9,
         load * 1e6,
+        refusal * 1e6,
         tests * 1e6
     ))
+}
+
+/// The time of load where the last byte is an unlisted opcode.
+fn time_refusal(modules: &[Source]) -> f64 {
+    let mut image = encode(modules);
+    let last = image.len() - 1;
+    image[last] = 0o021;
+    let mut map = vec![0; image.len()];
+    least_time(|| assert_eq!(load(&image, &mut map).number, number::NOT_WHOLE))
 }
 
 /// The times of load and of a run of n steps.
 fn time_run(modules: &[Source], n: u32) -> (f64, f64) {
     let image = encode(modules);
     let mut map = vec![0; image.len()];
-    let load_time = least_time(|| assert_eq!(load(&image, &mut map), 0));
+    let load_time = least_time(|| assert_eq!(load(&image, &mut map).number, 0));
     let mut store = vec![0; 4_096];
     let (_, machine) = second::start(&image, &mut store);
     let mut outputs = [0; 16];

@@ -1,4 +1,4 @@
-//! The paper's numbers: refusals 1 to 12 and stops 30 to 40.
+//! The paper's numbers: refusals 1 to 13 and stops 30 to 40.
 
 /// "Load and start return 0 where they accept."
 pub const ACCEPTED: u8 = 0;
@@ -17,7 +17,7 @@ pub const BIT_MAP: u8 = 5;
 pub const FIELD_RANGE: u8 = 6;
 /// "map shorter than image"
 pub const MAP_SHORT: u8 = 7;
-/// "no depths fit"
+/// "no depths fit"; since A.3 "that the code is whole and no depths fit"
 pub const NO_DEPTHS: u8 = 8;
 /// "W below Z + 36 or over 65,535"
 pub const STORE_SIZE: u8 = 9;
@@ -27,6 +27,8 @@ pub const CHANNEL_COUNT: u8 = 10;
 pub const NOT_A_MACHINE: u8 = 11;
 /// "map does not fit"
 pub const MAP_UNFIT: u8 = 12;
+/// The code is not whole. A.3: "13, after 7 and before 8".
+pub const NOT_WHOLE: u8 = 13;
 
 /// "30 spent (all n steps done)"
 pub const SPENT: u8 = 30;

@@ -2,6 +2,7 @@
 //! refuses, map bytes that are no marks, and landings.
 
 use crate::case::{Case, Outcome};
+use crate::coverage::{named, Line};
 use crate::depths::{fits, position_fits, Mark, UNMARKED};
 use crate::image::{parse, Module, Procedure, Program};
 use crate::machine::Machine;
@@ -67,7 +68,7 @@ impl Results {
 
     /// The marks that load has made, or why it has made none.
     fn add_load(&mut self, program: &Program, image: &[u8], outcome: &Outcome) {
-        match outcome.load {
+        match outcome.load.number {
             ACCEPTED => {
                 let bytes = outcome.map[..image.len()].iter().copied();
                 for mark in bytes.filter_map(Mark::decode) {
@@ -84,12 +85,8 @@ impl Results {
     }
 
     /// The lines of the report: what was reached, its kinds and their counts.
-    pub fn lines(&self) -> [(&'static str, Vec<(String, u64)>); 4] {
-        let named = |names: &[&str], counts: &[u64]| {
-            let names = names.iter().map(|name| name.to_string());
-            names.zip(counts.iter().copied()).collect()
-        };
-        [
+    pub fn lines(&self) -> Vec<Line> {
+        vec![
             (
                 "marks of accepted images with results",
                 named(&["0", "1", "2", "3", "4"], &self.marks),
@@ -104,16 +101,6 @@ impl Results {
             ),
             ("landings of 354 on", named(&LANDING, &self.landings)),
         ]
-    }
-
-    /// What was not reached.
-    pub fn faults(&self) -> Vec<String> {
-        let mut faults = Vec::new();
-        for (reached, kinds) in self.lines() {
-            let missing = kinds.iter().filter(|(_, count)| *count == 0);
-            faults.extend(missing.map(|(kind, _)| format!("no {reached} {kind}")));
-        }
-        faults
     }
 }
 

@@ -1,19 +1,34 @@
--- What the exported start and run answer and leave in the buffers that they are lent, from the definition's startOf and runOf.
+-- What the exported load, start and run answer and leave in the buffers that they are lent, from the definition's Loads, startOf and runOf.
+use mathlib.Core.Path.{_≡_}
 use Prim.Native.Nat.{ℕ}
 use mathlib.Core.List.{List, [], _∷_}
 use lib.ListN.{length}
 use lib.Dec.{eqb}
 use Rattle.mcode.specs.Word.{pick, and}
 use Rattle.mcode.specs.Machine.{state}
-use Rattle.mcode.specs.Run.{Started, RunLeft, startOf, runOf, endingNumber, endingCode}
+use Rattle.mcode.specs.Run.{Started, RunLeft, Loads, startOf, runOf, endingNumber, endingCode}
 use Rattle.mcode.specs.declared.Machine.{Machine}
+use Rattle.mcode.specs.declared.Verdict.{Verdict}
 use Rattle.mcode.specs.declared.Ending.{Ending}
 use Rattle.mcode.specs.declared.Ending.the-variants.{Refused, Stopped}
 use Rattle.capi.specs.Words.{wordsOf, machineOf}
 
--- the answer to a machine that is not 24 words, or an answer that is not 2 numbers: nothing is changed
+-- the answer to a place that is not 2 words, a machine that is not 24 words, or an answer that is not 2 numbers: nothing is changed
 abbrev pub wrongLength : ℕ
 wrongLength = 20
+
+-- ---- load
+
+-- load's answer, as the number and the two words of the place: module and position
+pub record Said (image before : List ℕ) (number : ℕ) (after place : List ℕ) : Type 0 where
+  pub verdict : Verdict
+  pub loads : Loads image before verdict after
+  pub number-is : number ≡ verdict .number
+  pub place-is : place ≡ verdict .unit ∷ verdict .pc .0 ∷ []
+
+abbrev pub LoadLeft : List ℕ → List ℕ → List ℕ → ℕ → List ℕ → List ℕ → Type 0
+LoadLeft image before place number after place′ =
+    pick (eqb (length place) 2) (Said image before number after place′) ((number ≡ wrongLength) × (after ≡ before) × (place′ ≡ place))
 
 -- ---- start
 

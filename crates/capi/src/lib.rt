@@ -5,17 +5,24 @@ use crate::words::put_answer;
 use crate::words::unpack;
 use mcode::Ending;
 ghost use mathlib.Core.Path.{_≡_};
-ghost use Rattle.mcode.specs.Run.{Loads};
-ghost use Rattle.capi.specs.Answers.{startLeft, startWords, runLeft, runWords};
+ghost use Rattle.capi.specs.Answers.{LoadLeft, startLeft, startWords, runLeft, runWords};
 
 mod words;
 
-// The number of the refusal, 1 to 8, or 0.
+// The number of the refusal, 1 to 8 or 13, or 0, and the place: the module and the position at fault with 13, else 0 and 0. 20 where the
+// place is not 2 words, and then nothing is changed.
 #[no_mangle]
-pub extern "C" fn cembuxola_load(image: &[u8], map: &mut [u8]) -> u16
-    ensures { λ r. ⌜ Loads (now (image .entry)) (now (map .entry)) r (now (map .exit)) ⌝ }
+pub extern "C" fn cembuxola_load(image: &[u8], map: &mut [u8], place: &mut [u16]) -> u16
+    ensures { λ r. ⌜ LoadLeft (now (image .entry)) (now (map .entry)) (now (place .entry)) r (now (map .exit)) (now (place .exit)) ⌝ }
 {
-    engine::load::load(image, map)
+    if place.len() != 2 {
+        return 20;
+    }
+    let verdict = loader::load::load(image, map);
+    let pc = verdict.pc.0;
+    place[0] = verdict.unit as u16;
+    place[1] = pc;
+    verdict.number
 }
 
 // The number of the refusal, 1 to 6 or 9, or 0, and the machine's words: zeros where start refuses. 20 where the machine is not 24
@@ -27,7 +34,7 @@ pub extern "C" fn cembuxola_start(image: &[u8], store: &mut [u16], machine: &mut
     if machine.len() != 24 {
         return 20;
     }
-    let started = engine::start::start(image, store);
+    let started = loader::start::start(image, store);
     let first = started.machine;
     pack(machine, first);
     started.number

@@ -4,10 +4,12 @@ use mathlib.Core.List.{List}
 use Prim.Native.Nat.{ℕ, _+_, _-_, _≤_, _<_}
 use lib.Dec.{eqb, ltb}
 use lib.ListN.{length, take, set}
-use Rattle.mcode.specs.Word.{pick}
+use Rattle.mcode.specs.Word.{pick, or}
 use Rattle.mcode.specs.Image.{parse}
+use Rattle.explain.specs.declared.Why.{Why}
+use Rattle.explain.specs.Reason.{Reasoned}
 use Rattle.console.specs.declared.print.Place.{Place}
-use Rattle.console.specs.declared.print.Place.the-variants.{Unknown, Byte, Inside}
+use Rattle.console.specs.declared.print.Place.the-variants.{Unknown, Byte, Inside, Code}
 
 -- the least number below `most` of which P holds; `most` where it holds of none
 pub record Least (P : ℕ → Type 0) (most r : ℕ) : Type 0 where
@@ -41,3 +43,9 @@ Placed image number r =
     (pick (eqb number 3) (InModule image number (λ m. r ≡ Inside m (length image)))
     (pick (eqb number 4) (AtByte image number Byte r)
     (InModule image number (λ m. AtByte image number (Inside m) r)))))))
+
+-- 13 and 8: in the code, as the explanation says that is made with the lent map
+unfoldable pub Found : List ℕ → List ℕ → ℕ → Place → Type 0
+Found image map number r =
+    pick (or (eqb number 13) (eqb number 8)) ((why : Why) × (Reasoned image map why) × (r ≡ Code why))
+    (Placed image number r)

@@ -1,11 +1,11 @@
-// Where a refusal 1 to 6 of an image lies. Only the proved reader is asked, about parts of the image and about other counts: a part
+// Where a refusal of an image lies. Of 1 to 6 only the proved reader is asked, about parts of the image and about other counts: a part
 // must be present before its value is judged, so the byte at fault is the last one of the shortest prefix that is refused the same.
 use crate::print::Place;
 use image::read_image;
 ghost use mathlib.Core.Path.{_≡_};
 ghost use Prim.Native.Nat.{_-_, _<_};
 ghost use lib.ListN.{length};
-ghost use Rattle.console.specs.Faults.{Least, PrefixRefused, CountRefused, Placed};
+ghost use Rattle.console.specs.Faults.{Least, PrefixRefused, CountRefused, Placed, Found};
 
 // The length of the shortest prefix that is refused with the number; the image's length where no shorter one is.
 pub fn shortest(image: &[u8], number: u16) -> usize
@@ -78,4 +78,18 @@ pub fn place(image: &mut [u8], number: u16) -> Place
     }
     let unit = module_at(image, number);
     Place::Inside(unit, last(shortest(image, number)))
+}
+
+// Where any refusal of an image lies: with 13 or 8 in the code of a module. The map is lent for that; what it holds before and after does
+// not matter.
+pub fn found(image: &mut [u8], map: &mut [u8], number: u16) -> Place
+    ensures { λ r. ⌜ (now (image .exit) ≡ now (image .entry)) × (Found (now (image .entry)) (now (map .entry)) number r) ⌝ }
+{
+    if number == 13 {
+        return Place::Code(explain::reason(image, map));
+    }
+    if number == 8 {
+        return Place::Code(explain::reason(image, map));
+    }
+    place(image, number)
 }

@@ -2,6 +2,7 @@
 // printing of a reading. Each question about bytes is answered by a function on slices whose contract gives the whole answer; the
 // programs only read, ask and print.
 pub mod arguments;
+pub mod code;
 pub mod fault;
 pub mod files;
 pub mod number;

@@ -1,5 +1,7 @@
 // The lines that the programs print.
+use crate::code::put_why;
 use crate::words;
+use explain::Why;
 use libc::STDERR_FILENO;
 use libc::STDOUT_FILENO;
 use mcode::Machine;
@@ -58,11 +60,12 @@ pub fn refused(refusal: u16) {
     line_end();
 }
 
-// Where a refusal lies: unknown, at a byte of the image, or in a module at a byte of the image.
+// Where a refusal lies: unknown, at a byte of the image, in a module at a byte of the image, or in the code of a module.
 pub enum Place {
     Unknown,
     Byte(usize),
     Inside(usize, usize),
+    Code(Why),
 }
 
 fn put_place(fd: i32, place: Place) {
@@ -77,10 +80,11 @@ fn put_place(fd: i32, place: Place) {
             number(fd, b", byte ", byte as u64);
             io::write_all(fd, b")");
         }
+        Place::Code(why) => put_why(fd, why),
     }
 }
 
-// `refused N: WORDS (module M, byte B)`, with no line end.
+// `refused N: WORDS (PLACE)`, with no line end.
 pub fn refused_as(fd: i32, refusal: u16, place: Place) {
     number(fd, b"refused ", refusal as u64);
     io::write_all(fd, b": ");
@@ -96,7 +100,7 @@ fn head(program: &[u8], subject: &[u8]) {
     io::write_all(STDERR_FILENO, b": ");
 }
 
-// On standard error, `PROGRAM: FILE: refused N: WORDS (module M, byte B)`.
+// On standard error, `PROGRAM: FILE: refused N: WORDS (PLACE)`.
 pub fn refusal(program: &[u8], file: &[u8], refusal: u16, place: Place) {
     head(program, file);
     refused_as(STDERR_FILENO, refusal, place);

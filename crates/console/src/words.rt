@@ -1,6 +1,6 @@
 // The words of the paper for each refusal and each stop. Each function answers as `io::write_all` does.
 
-// A refusal, 1 to 12.
+// A refusal, 1 to 13.
 pub fn refusal(fd: i32, number: u16) -> bool {
     match number {
         1 => io::write_all(fd, b"image of 0 or over 65,535 bytes"),
@@ -10,11 +10,12 @@ pub fn refusal(fd: i32, number: u16) -> bool {
         5 => io::write_all(fd, b"bit 3 to 7 of a bit map"),
         6 => io::write_all(fd, b"a field out of range"),
         7 => io::write_all(fd, b"map shorter than image"),
-        8 => io::write_all(fd, b"no depths fit"),
+        8 => io::write_all(fd, b"no depths fit the code, which is whole"),
         9 => io::write_all(fd, b"W below Z + 36 or over 65,535"),
         10 => io::write_all(fd, b"inputs or outputs not 16 words"),
         11 => io::write_all(fd, b"not a machine"),
         12 => io::write_all(fd, b"map does not fit"),
+        13 => io::write_all(fd, b"the code is not whole"),
         _ => io::write_all(fd, b"no such refusal"),
     }
 }

@@ -107,35 +107,35 @@ abbrev by-tests : Bool → Bool → Bool → Bool → ℕ
 by-tests u j h q = pick u 5 (pick j 2 (pick h 3 (pick q 1 4)))
 
 module _ (k : ℕ) where
-  of-plain : (u j h q : Bool) → k ≡ by-tests u j h q → k ≤ 1 → (u ≡ false) × (j ≡ false) × (h ≡ false) × (q ≡ true)
+  pub of-plain : (u j h q : Bool) → k ≡ by-tests u j h q → k ≤ 1 → (u ≡ false) × (j ≡ false) × (h ≡ false) × (q ≡ true)
   of-plain true j h q e l = absurd (omega (arith, e, l))
   of-plain false true h q e l = absurd (omega (arith, e, l))
   of-plain false false true q e l = absurd (omega (arith, e, l))
   of-plain false false false true e l = (refl, refl, refl, refl)
   of-plain false false false false e l = absurd (omega (arith, e, l))
 
-  of-jump : (u j h q : Bool) → k ≡ by-tests u j h q → 1 < k → k ≤ 2 → (u ≡ false) × (j ≡ true)
+  pub of-jump : (u j h q : Bool) → k ≡ by-tests u j h q → 1 < k → k ≤ 2 → (u ≡ false) × (j ≡ true)
   of-jump true j h q e g l = absurd (omega (arith, e, l))
   of-jump false true h q e g l = (refl, refl)
   of-jump false false true q e g l = absurd (omega (arith, e, l))
   of-jump false false false true e g l = absurd (omega (arith, e, g))
   of-jump false false false false e g l = absurd (omega (arith, e, l))
 
-  of-last : (u j h q : Bool) → k ≡ by-tests u j h q → 2 < k → k ≤ 3 → (u ≡ false) × (h ≡ true)
+  pub of-last : (u j h q : Bool) → k ≡ by-tests u j h q → 2 < k → k ≤ 3 → (u ≡ false) × (h ≡ true)
   of-last true j h q e g l = absurd (omega (arith, e, l))
   of-last false true h q e g l = absurd (omega (arith, e, g))
   of-last false false true q e g l = (refl, refl)
   of-last false false false true e g l = absurd (omega (arith, e, g))
   of-last false false false false e g l = absurd (omega (arith, e, l))
 
-  of-other : (u j h q : Bool) → k ≡ by-tests u j h q → 3 < k → k ≤ 4 → (u ≡ false) × (j ≡ false) × (h ≡ false) × (q ≡ false)
+  pub of-other : (u j h q : Bool) → k ≡ by-tests u j h q → 3 < k → k ≤ 4 → (u ≡ false) × (j ≡ false) × (h ≡ false) × (q ≡ false)
   of-other true j h q e g l = absurd (omega (arith, e, l))
   of-other false true h q e g l = absurd (omega (arith, e, g))
   of-other false false true q e g l = absurd (omega (arith, e, g))
   of-other false false false true e g l = absurd (omega (arith, e, g))
   of-other false false false false e g l = (refl, refl, refl, refl)
 
-  of-none : (u j h q : Bool) → k ≡ by-tests u j h q → 4 < k → u ≡ true
+  pub of-none : (u j h q : Bool) → k ≡ by-tests u j h q → 4 < k → u ≡ true
   of-none true j h q e g = refl
   of-none false true h q e g = absurd (omega (arith, e, g))
   of-none false false true q e g = absurd (omega (arith, e, g))

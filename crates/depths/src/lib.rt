@@ -229,8 +229,48 @@ pub fn blank(map: &mut [u8])
     }
 }
 
-// Fills module m's part of the map with the fewest depths that fit. False, and all unmarked, where none fit. `work` is for the
-// queue: what it holds before and after does not matter.
+// Searches module m's part of the map for the fewest depths that fit. False where none fit: the map then holds the marks that were found
+// before a rule was broken. `work` is for the queue: what it holds before and after does not matter.
+pub fn find(
+    image: &[u8],
+    map: &mut [u8],
+    work: &mut [u16],
+    count: usize,
+    procs: &[u16; 32],
+    tables: &[usize; 32],
+    m: Module,
+    sizes: &[u8; 256],
+    takes: &[u8; 256],
+    leaves: &[u8; 256],
+    kinds: &[u8; 256],
+) -> bool
+    requires { ⌜ Ready (now image) count (now procs) (now tables) m (now sizes) (now takes) (now leaves) (now kinds) ⌝ }
+    requires { ⌜ length (now map) ≡ m .length ⌝ }
+    requires { ⌜ m .length ≤ length (now work) ⌝ }
+    ensures { λ r. ⌜ Found (depthsOf (now (image .entry)) count (now (procs .entry)) (now (tables .entry)) m) r (now (map .exit)) ⌝ }
+{
+    blank(map);
+    let v = enter(image, map, work, count, procs, tables, m);
+    match v {
+        Visit::Clash => false,
+        Visit::Tail(t) => drain(
+            image,
+            map,
+            work,
+            t,
+            count,
+            procs,
+            tables,
+            m,
+            sizes,
+            takes,
+            leaves,
+            kinds,
+        ),
+    }
+}
+
+// Fills module m's part of the map with the fewest depths that fit. False, and all unmarked, where none fit.
 pub fn check(
     image: &[u8],
     map: &mut [u8],
@@ -249,32 +289,22 @@ pub fn check(
     requires { ⌜ m .length ≤ length (now work) ⌝ }
     ensures { λ r. ⌜ Answer (depthsOf (now (image .entry)) count (now (procs .entry)) (now (tables .entry)) m) r (now (map .exit)) ⌝ }
 {
-    blank(map);
-    let v = enter(image, map, work, count, procs, tables, m);
-    match v {
-        Visit::Clash => {
-            blank(map);
-            false
-        }
-        Visit::Tail(t) => {
-            if drain(
-                image,
-                map,
-                work,
-                t,
-                count,
-                procs,
-                tables,
-                m,
-                sizes,
-                takes,
-                leaves,
-                kinds,
-            ) {
-                return true;
-            }
-            blank(map);
-            false
-        }
+    let found = find(
+        image,
+        map,
+        work,
+        count,
+        procs,
+        tables,
+        m,
+        sizes,
+        takes,
+        leaves,
+        kinds,
+    );
+    if found {
+        return true;
     }
+    blank(map);
+    false
 }

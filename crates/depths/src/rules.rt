@@ -26,7 +26,7 @@ pub fn wide(x: u8) -> usize
 }
 
 // The rows of the opcode table, which is lent: a const array is built anew at each use.
-fn length_of(t: &[u8; 256], op: u8) -> usize
+pub fn length_of(t: &[u8; 256], op: u8) -> usize
     requires { ⌜ now t ≡ lengths ⌝ }
     ensures { λ r. ⌜ (r ≡ getD lengths op 0) × (r < 256) ⌝ }
 {
@@ -278,7 +278,7 @@ pub fn names_module(op: u8) -> bool
 }
 
 // The procedure that a call inside the module names.
-fn callee_of(op: u8, b: u8) -> usize
+pub fn callee_of(op: u8, b: u8) -> usize
     ensures { λ r. ⌜ (r ≡ pick (leb op 0o360) b (op - 0o360)) × (r < 256) ⌝ }
 {
     if op <= 0o360 {
@@ -356,7 +356,7 @@ pub fn row_at(
     Row::Next(n, (wide(mark) - taken + left) as u8)
 }
 
-// What follows position p of module m with a mark. It has one caller, so that it is compiled in line there.
+// What follows position p of module m with a mark. In the library it has one caller, so that it is compiled in line there.
 pub fn flow_at(
     image: &[u8],
     p: usize,

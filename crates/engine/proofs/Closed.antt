@@ -11,17 +11,22 @@ use Rattle.mcode.specs.Machine.{state}
 use Rattle.mcode.specs.Run as Run
 use Rattle.mcode.specs.Run.{RunLeft, startOf, runOf, Loads}
 use Rattle.mcode.specs.Demands.{Request, answer, AllRuns, Demand3}
+use Rattle.mcode.proofs.Load.{passed}
 use Rattle.mcode.proofs.Session.{demand3}
+use Rattle.mcode.specs.declared.Verdict.{Verdict}
 use Rattle.engine.specs.declared.run.Ran.{Ran}
 use Rattle.engine.specs.declared.session.TwoRuns.{TwoRuns}
 use Rattle.engine.specs.Ran.{answered, refusedAs}
 use Rattle.engine.specs.Closed.{startedOf, Ran2, NoRun, Closes}
-use Rattle.engine.proofs.Begin.{start-leaves}
+use Rattle.loader.proofs.Begin.{start-leaves}
 
-module _ (image before store outputs : List ℕ) (p q : Request) (number : ℕ) (after : List ℕ) (L : Loads image before number after) (r : TwoRuns) where
+module _ (image before store outputs : List ℕ) (p q : Request) (v : Verdict) (after : List ℕ) (L : Loads image before v after) (r : TwoRuns) where
+  abbrev number : ℕ
+  number = v .number
+
   pub load-ends : 1 ≤ number → r .number ≡ number → r .first ≡ refusedAs number → r .second ≡ refusedAs number → Closes image before store outputs p q r after store outputs
   load-ends l e a b = record {
-    loaded = number;
+    loaded = v;
     loads = L;
     number = e ∙ rw (le-leb 1 number l);
     refused = λ h. record { first = a ∙ ap refusedAs (sym e); second = b ∙ ap refusedAs (sym e); kept = refl; unchanged = refl };
@@ -37,7 +42,7 @@ module _ (image before store outputs : List ℕ) (p q : Request) (number : ℕ) 
 
     pub start-ends : 1 ≤ s .number → r .number ≡ s .number → r .first ≡ refusedAs (s .number) → r .second ≡ refusedAs (s .number) → Closes image before store outputs p q r after (s .store) outputs
     start-ends l n a b = record {
-      loaded = number;
+      loaded = v;
       loads = L;
       number = n ∙ same-number ∙ after-load;
       refused = λ h. record {
@@ -59,7 +64,7 @@ module _ (image before store outputs : List ℕ) (p q : Request) (number : ℕ) 
         let z : number ≡ 0 = omega (arith, ok) in
         let f : startOf image store .number ≡ 0 = omega (arith, l, same-number) in
         record {
-          loaded = number;
+          loaded = v;
           loads = L;
           number = n ∙ sym f ∙ after-load;
           refused = λ h. absurd (let g : ⊥ = omega (arith, h, n) in g);
@@ -68,6 +73,6 @@ module _ (image before store outputs : List ℕ) (p q : Request) (number : ℕ) 
             count = ap (λ (x : RunLeft). x .count) one;
             machine = ap (λ (x : RunLeft). x .state .machine) one;
             second = b ∙ ap (λ (x : RunLeft). runOf image after (q .inputs) (q .budget) (x .state)) one;
-            owed = λ o. demand3 image before after (subst (λ (k : ℕ). Loads image before k after) z L) store outputs f o (p ∷ q ∷ []);
+            owed = λ o. demand3 image before after (subst (λ (x : Verdict). Loads image before x after) (passed image before after v L z .verdict-is) L) store outputs f o (p ∷ q ∷ []);
           };
         }

@@ -24,8 +24,8 @@ use Rattle.control.specs.Table.{countIn, standsIn}
 use Rattle.mcode.proofs.Tests.{all-at, at-all, first-or, second-or}
 use Rattle.execute.specs.Stepping.{Prepared}
 use Rattle.engine.specs.Numbers.{Words, Narrow}
-use Rattle.engine.specs.Judged.{zerosAbove, framedIn, machineIn, Passed, Verdict}
-use Rattle.engine.proofs.Begin.{read-told, store-fits-so}
+use Rattle.engine.specs.Judged.{zerosAbove, framedIn, machineIn, Passed, Judges}
+use Rattle.loader.proofs.Begin.{read-told, store-fits-so}
 
 -- a test that fails at one number fails
 pub all-fails : (n : ℕ) (f : ℕ → Bool) (k : ℕ) → k < n → f k ≡ false → allBelow n f ≡ false
@@ -103,26 +103,26 @@ module _ (image map : List ℕ) (m : Machine) (w outs ins : ℕ) (r : Parsed) (e
   unfolding runRefusal
   by-read number h inputs store outputs i s o = h inputs store outputs i s o ∙ ap (λ (p : Parsed). refusalBy p image map inputs (state m store outputs)) e
 
-  refuses : (number : ℕ) (table : List ℕ) → 1 ≤ number → Tells number → Verdict image map m w outs ins number table
+  refuses : (number : ℕ) (table : List ℕ) → 1 ≤ number → Tells number → Judges image map m w outs ins number table
   refuses number table l h = record { refusal = h; passed = λ z. absurd (let f : ⊥ = omega (arith, l, z) in f) }
 
-  pub refused-1 : 1 ≤ r .refusal → (table : List ℕ) → Verdict image map m w outs ins (r .refusal) table
+  pub refused-1 : 1 ≤ r .refusal → (table : List ℕ) → Judges image map m w outs ins (r .refusal) table
   refused-1 l table = refuses (r .refusal) table l (by-read (r .refusal) (λ inputs store outputs i s o. rw (le-leb 1 (r .refusal) l)))
 
   module _ (l₁ : r .refusal < 1) where
-    pub refused-7 : length map < length image → (table : List ℕ) → Verdict image map m w outs ins 7 table
+    pub refused-7 : length map < length image → (table : List ℕ) → Judges image map m w outs ins 7 table
     refused-7 h table = refuses 7 table (omega arith) (by-read 7 (λ inputs store outputs i s o. rw (lt-leb 1 (r .refusal) l₁, lt-ltb (length map) (length image) h)))
 
     module _ (l₂ : length image ≤ length map) where
-      pub refused-12 : mapFits image (r .program) map ≡ false → (table : List ℕ) → Verdict image map m w outs ins 12 table
+      pub refused-12 : mapFits image (r .program) map ≡ false → (table : List ℕ) → Judges image map m w outs ins 12 table
       refused-12 h table = refuses 12 table (omega arith) (by-read 12 (λ inputs store outputs i s o. rw (lt-leb 1 (r .refusal) l₁, le-ltb (length map) (length image) l₂, h)))
 
       module _ (l₃ : mapFits image (r .program) map ≡ true) where
-        pub refused-9 : storeFits (r .program) w ≡ false → (table : List ℕ) → Verdict image map m w outs ins 9 table
+        pub refused-9 : storeFits (r .program) w ≡ false → (table : List ℕ) → Judges image map m w outs ins 9 table
         refused-9 h table = refuses 9 table (omega arith) (by-read 9 (λ inputs store outputs i s o. rw (lt-leb 1 (r .refusal) l₁, le-ltb (length map) (length image) l₂, l₃, s, h)))
 
         module _ (l₄ : storeFits (r .program) w ≡ true) where
-          pub refused-10 : and (eqb ins 16) (eqb outs 16) ≡ false → (table : List ℕ) → Verdict image map m w outs ins 10 table
+          pub refused-10 : and (eqb ins 16) (eqb outs 16) ≡ false → (table : List ℕ) → Judges image map m w outs ins 10 table
           refused-10 h table = refuses 10 table (omega arith) (by-read 10 (λ inputs store outputs i s o. rw (lt-leb 1 (r .refusal) l₁, le-ltb (length map) (length image) l₂, l₃, s, l₄, i, o, h)))
 
           module _ (l₅ : ins ≡ 16) (l₆ : outs ≡ 16) (table : List ℕ) (T : Tabled table (r .program)) where
@@ -135,12 +135,12 @@ module _ (image map : List ℕ) (m : Machine) (w outs ins : ℕ) (r : Parsed) (e
               tabled = subst (λ (p : Parsed). Tabled table (p .program)) e T;
             }
 
-            pub refused-11 : machineIn table map w m ≡ false → (other : List ℕ) → Verdict image map m w outs ins 11 other
+            pub refused-11 : machineIn table map w m ≡ false → (other : List ℕ) → Judges image map m w outs ins 11 other
             refused-11 h other =
                 refuses 11 other (omega arith)
                 (by-read 11 (λ inputs store outputs i s o. rw (lt-leb 1 (r .refusal) l₁, le-ltb (length map) (length image) l₂, l₃, s, l₄, i, o, l₅, l₆, machine-same table map (r .program) T w m, h)))
 
-            pub passed-so : machineIn table map w m ≡ true → Verdict image map m w outs ins 0 table
+            pub passed-so : machineIn table map w m ≡ true → Judges image map m w outs ins 0 table
             passed-so h = record {
               refusal = by-read 0 (λ inputs store outputs i s o. rw (lt-leb 1 (r .refusal) l₁, le-ltb (length map) (length image) l₂, l₃, s, l₄, i, o, l₅, l₆, machine-same table map (r .program) T w m, h));
               passed = λ z. record {

@@ -1,7 +1,3 @@
-pub mod Answers
-pub mod Bases
-pub mod Begin
-pub mod Fill
 pub mod Judged
 pub mod Numbers
 pub mod Closed

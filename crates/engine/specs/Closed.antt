@@ -8,6 +8,7 @@ use Rattle.mcode.specs.Word.{pick}
 use Rattle.mcode.specs.Machine.{State, state}
 use Rattle.mcode.specs.Run.{RunLeft, startOf, Loads}
 use Rattle.mcode.specs.Demands.{Request, answer, AllRuns}
+use Rattle.mcode.specs.declared.Verdict.{Verdict}
 use Rattle.engine.specs.declared.session.TwoRuns.{TwoRuns}
 use Rattle.engine.specs.Ran.{answered, refusedAs}
 
@@ -31,8 +32,8 @@ pub record NoRun (store outputs : List ℕ) (r : TwoRuns) (store′ outputs′ :
   pub unchanged : outputs′ ≡ outputs
 
 pub record Closes (image before store outputs : List ℕ) (p q : Request) (r : TwoRuns) (after store′ outputs′ : List ℕ) : Type 0 where
-  pub loaded : ℕ
+  pub loaded : Verdict
   pub loads : Loads image before loaded after
-  pub number : r .number ≡ pick (leb 1 loaded) loaded (startOf image store .number)
+  pub number : r .number ≡ pick (leb 1 (loaded .number)) (loaded .number) (startOf image store .number)
   pub refused : 1 ≤ r .number → NoRun store outputs r store′ outputs′
   pub runs : r .number ≡ 0 → Ran2 image after store outputs p q r store′ outputs′

@@ -33,6 +33,6 @@ pub record Passed (image map : List ℕ) (m : Machine) (w outs ins : ℕ) (table
   pub inputs : ins ≡ 16
 
 -- the number is that of the definition, whatever words the buffers of these lengths hold; 0, and all is as a step asks
-pub record Verdict (image map : List ℕ) (m : Machine) (w outs ins number : ℕ) (table : List ℕ) : Type 0 where
+pub record Judges (image map : List ℕ) (m : Machine) (w outs ins number : ℕ) (table : List ℕ) : Type 0 where
   pub refusal : (inputs store outputs : List ℕ) → length inputs ≡ ins → length store ≡ w → length outputs ≡ outs → number ≡ runRefusal image map inputs (state m store outputs)
   pub passed : number ≡ 0 → Passed image map m w outs ins table

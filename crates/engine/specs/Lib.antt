@@ -1,5 +1,3 @@
-pub mod Load
-pub mod Begin
 pub mod Numbers
 pub mod Stops
 pub mod Judged

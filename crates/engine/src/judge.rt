@@ -1,6 +1,6 @@
 // Run's refusals, in their order: 1 to 6, 7, 12, 9, 10, 11.
-use crate::start::store_fits;
 use crate::table::table_of;
+use loader::start::store_fits;
 use mcode::Machine;
 use mcode::Registers;
 ghost use mathlib.Core.Path.{_≡_};
@@ -8,7 +8,7 @@ ghost use mathlib.Core.List.{List};
 ghost use Prim.Native.Nat.{_+_, _≤_, _<_};
 ghost use lib.ListN.{length};
 ghost use Rattle.control.specs.Table.{Mapped};
-ghost use Rattle.engine.specs.Judged.{zerosAbove, framedIn, machineIn, Verdict};
+ghost use Rattle.engine.specs.Judged.{zerosAbove, framedIn, machineIn, Judges};
 
 // What run makes of its arguments: the number of the refusal, or 0 and the program's numbers.
 pub struct Judged {
@@ -86,7 +86,7 @@ pub fn judge(
     outs: usize,
     ins: usize,
 ) -> Judged
-    ensures { λ r. ⌜ Verdict (now (image .entry)) (now (map .entry)) machine w outs ins (r .refusal) (r .table) ⌝ }
+    ensures { λ r. ⌜ Judges (now (image .entry)) (now (map .entry)) machine w outs ins (r .refusal) (r .table) ⌝ }
 {
     let parsed = image::read_image(image);
     let refusal = parsed.refusal;

@@ -1,8 +1,6 @@
-// The engine: load, start and run.
+// The engine: run, what it refuses, and a session of load, start and two runs.
 pub mod judge;
-pub mod load;
 pub mod run;
 pub mod session;
-pub mod start;
 pub mod stops;
 mod table;

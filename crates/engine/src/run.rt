@@ -1,10 +1,10 @@
 // Run: the refusals, then one step after another until a stop is found.
 use crate::judge::judge;
-use crate::start::zero_machine;
 use crate::stops::stop_of;
 use execute::steps::core_of;
 use execute::steps::machine_of;
 use execute::turn;
+use loader::start::zero_machine;
 use mcode::Ending;
 use mcode::Machine;
 use mcode::Stop;

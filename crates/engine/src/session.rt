@@ -1,9 +1,9 @@
 // Load, start and two runs, with what demand 3 says of them: the chain from the code to the theorem over the whole list of runs.
-use crate::load::load;
 use crate::run::Ran;
 use crate::run::refused_with;
 use crate::run::run;
-use crate::start::start;
+use loader::load::load;
+use loader::start::start;
 ghost use mathlib.Core.Path.{_≡_};
 ghost use Rattle.engine.specs.Ran.{refusedAs};
 ghost use Rattle.engine.specs.Closed.{Closes};
@@ -39,7 +39,8 @@ pub fn two_runs(
 ) -> TwoRuns
     ensures { λ r. ⌜ Closes (now (image .entry)) (now (map .entry)) (now (store .entry)) (now (outputs .entry)) (record { budget = n; inputs = now (inputs .entry) }) (record { budget = m; inputs = now (others .entry) }) r (now (map .exit)) (now (store .exit)) (now (outputs .exit)) ⌝ }
 {
-    let number = load(image, map);
+    let verdict = load(image, map);
+    let number = verdict.number;
     if 1 <= number {
         return no_session(number);
     }

@@ -6,13 +6,17 @@ use borrow.Author.Tests.{le-leb, lt-leb}
 use Rattle.mcode.specs.Machine.{state, zeroMachine}
 use Rattle.mcode.specs.Run as Run
 use Rattle.mcode.specs.Run.{RunLeft, refused, runOf, startOf, Loads}
-use Rattle.engine.proofs.Begin.{start-leaves}
+use Rattle.mcode.specs.declared.Verdict.{Verdict}
+use Rattle.loader.proofs.Begin.{start-leaves}
 use Rattle.in_place.specs.Whole.{readingOf, Reads}
 
-module _ (image before store outputs inputs : List ℕ) (n number : ℕ) (after : List ℕ) (L : Loads image before number after) where
+module _ (image before store outputs inputs : List ℕ) (n : ℕ) (v : Verdict) (after : List ℕ) (L : Loads image before v after) where
+  abbrev number : ℕ
+  number = v .number
+
   pub load-refuses : 1 ≤ number → Reads image before store outputs inputs n (refused number (state zeroMachine store outputs)) after
   unfolding readingOf
-  load-refuses l = record { number = number; loads = L; rest = rw (le-leb 1 number l) }
+  load-refuses l = record { verdict = v; loads = L; rest = rw (le-leb 1 number l) }
 
   module _ (a : number < 1) (s : Run.Started) (e : s ≡ startOf image store) where
     pub start-refuses : 1 ≤ s .number → Reads image before store outputs inputs n (refused (s .number) (state zeroMachine (s .store) outputs)) after
@@ -20,7 +24,7 @@ module _ (image before store outputs inputs : List ℕ) (n number : ℕ) (after 
     start-refuses l =
         let h : 1 ≤ startOf image store .number = subst (λ (x : Run.Started). 1 ≤ x .number) e l in
         record {
-          number = number;
+          verdict = v;
           loads = L;
           rest =
               ap (λ (x : Run.Started). refused (x .number) (state zeroMachine (x .store) outputs)) e
@@ -33,7 +37,7 @@ module _ (image before store outputs inputs : List ℕ) (n number : ℕ) (after 
     run-reads l left q =
         let h : startOf image store .number < 1 = subst (λ (x : Run.Started). x .number < 1) e l in
         record {
-          number = number;
+          verdict = v;
           loads = L;
           rest = q ∙ ap (λ (x : Run.Started). runOf image after inputs n (state (x .machine) (x .store) outputs)) e ∙ rw (lt-leb 1 number a, lt-leb 1 (startOf image store .number) h);
         }

@@ -6,6 +6,7 @@ use lib.Dec.{leb}
 use Rattle.mcode.specs.Word.{pick}
 use Rattle.mcode.specs.Machine.{state, zeroMachine}
 use Rattle.mcode.specs.Run.{RunLeft, refused, runOf, startOf, Loads}
+use Rattle.mcode.specs.declared.Verdict.{Verdict}
 
 -- what is left after load has answered a number and left a map
 unfoldable pub readingOf : ℕ → List ℕ → List ℕ → List ℕ → List ℕ → List ℕ → ℕ → RunLeft
@@ -17,6 +18,6 @@ readingOf number image map store outputs inputs n =
 
 -- the answer, the store, the outputs and the map that a whole reading leaves
 pub record Reads (image before store outputs inputs : List ℕ) (n : ℕ) (left : RunLeft) (after : List ℕ) : Type 0 where
-  pub number : ℕ
-  pub loads : Loads image before number after
-  pub rest : left ≡ readingOf number image after store outputs inputs n
+  pub verdict : Verdict
+  pub loads : Loads image before verdict after
+  pub rest : left ≡ readingOf (verdict .number) image after store outputs inputs n

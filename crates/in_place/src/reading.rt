@@ -1,9 +1,9 @@
 // A whole reading: load, then start, then one run.
 use crate::run::run;
-use engine::load::load;
 use engine::run::Ran;
 use engine::run::refused_with;
-use engine::start::start;
+use loader::load::load;
+use loader::start::start;
 ghost use Rattle.engine.specs.Ran.{answered};
 ghost use Rattle.in_place.specs.Whole.{Reads};
 
@@ -18,7 +18,8 @@ pub fn reading(
 ) -> Ran
     ensures { λ r. ⌜ Reads (now (image .entry)) (now (map .entry)) (now (store .entry)) (now (outputs .entry)) (now (inputs .entry)) n (answered r (now (store .exit)) (now (outputs .exit))) (now (map .exit)) ⌝ }
 {
-    let number = load(image, map);
+    let verdict = load(image, map);
+    let number = verdict.number;
     if 1 <= number {
         return refused_with(number);
     }

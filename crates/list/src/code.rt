@@ -1,16 +1,22 @@
 // A module's code, one line an instruction.
+use explain::marks;
 use listing::block::Block;
 use listing::block::text;
 use listing::bytes::byte_from;
+use listing::causes::words_length;
+use listing::causes::words_of;
 use listing::instruction::Instruction;
 use listing::instruction::instruction_at;
 use listing::print::blanks;
 use listing::print::hex;
 use listing::print::instruction;
+use listing::print::name;
 use listing::print::named;
+use listing::print::octal;
 use listing::print::right;
 use listing::procedure::entered;
 use listing::search::marked_from;
+use mcode::Cause;
 use mcode::Module;
 ghost use mathlib.Core.Path.{_≡_};
 ghost use Prim.Native.Nat.{_<_};
@@ -21,12 +27,16 @@ pub fn put_columns(out: &mut Block, used: &mut usize) {
     text(out, used, b"   pos  depth  bytes     instruction\n");
 }
 
-pub fn put_place(out: &mut Block, used: &mut usize, p: usize) {
+fn put_place(out: &mut Block, used: &mut usize, p: usize) {
     right(out, used, p as u64, 6);
 }
 
-// The depth of a mark, and its results beside it where there are any.
+// The depth of a mark, and its results beside it where there are any; - where no depth was found.
 fn put_depth(out: &mut Block, used: &mut usize, mark: u8) {
+    if mark == marks::NO_DEPTH {
+        put_no_depth(out, used);
+        return;
+    }
     let depth = depths::rules::depth_of(mark) as u64;
     let results = depths::rules::promised_of(mark) as u64;
     if results == 0 {
@@ -38,12 +48,12 @@ fn put_depth(out: &mut Block, used: &mut usize, mark: u8) {
     blanks(out, used, 2);
 }
 
-pub fn put_no_depth(out: &mut Block, used: &mut usize) {
+fn put_no_depth(out: &mut Block, used: &mut usize) {
     text(out, used, b"      -  ");
 }
 
 // A line for each procedure that enters at p.
-pub fn put_labels(out: &mut Block, used: &mut usize, image: &[u8], m: Module, p: u16) {
+fn put_labels(out: &mut Block, used: &mut usize, image: &[u8], m: Module, p: u16) {
     let count = depths::rules::proc_count(m);
     let mut i = entered(image, m, p, 0);
     while i < count {
@@ -54,7 +64,7 @@ pub fn put_labels(out: &mut Block, used: &mut usize, image: &[u8], m: Module, p:
 }
 
 // The bytes of the code from a to e.
-pub fn put_bytes(out: &mut Block, used: &mut usize, image: &[u8], m: Module, a: usize, e: usize) {
+fn put_bytes(out: &mut Block, used: &mut usize, image: &[u8], m: Module, a: usize, e: usize) {
     let mut p = a;
     while p < e {
         hex(out, used, byte_from(image, m.code, p));
@@ -64,14 +74,7 @@ pub fn put_bytes(out: &mut Block, used: &mut usize, image: &[u8], m: Module, a: 
 }
 
 // The first bytes of the instruction at p, up to the next column, which begins behind three bytes; more push it to the right.
-pub fn put_bytes_column(
-    out: &mut Block,
-    used: &mut usize,
-    image: &[u8],
-    m: Module,
-    p: u16,
-    count: u8,
-) {
+fn put_bytes_column(out: &mut Block, used: &mut usize, image: &[u8], m: Module, p: u16, count: u8) {
     let at = p as usize;
     let n = count as usize;
     put_bytes(out, used, image, m, at, at + n);
@@ -81,8 +84,8 @@ pub fn put_bytes_column(
     blanks(out, used, 1);
 }
 
-// The bytes and the words of a listed instruction.
-pub fn put_instruction(
+// The bytes and the words of an instruction. Of one that is not listed, or whose operands lie outside the code, there is the opcode.
+fn put_instruction(
     out: &mut Block,
     used: &mut usize,
     image: &[u8],
@@ -90,9 +93,40 @@ pub fn put_instruction(
     p: u16,
     i: Instruction,
 ) {
-    put_bytes_column(out, used, image, m, p, i.size);
-    instruction(out, used, i);
-    text(out, used, b"\n");
+    if 1 <= i.size {
+        put_bytes_column(out, used, image, m, p, i.size);
+        instruction(out, used, i);
+        return;
+    }
+    put_bytes_column(out, used, image, m, p, 1);
+    octal(out, used, i.op);
+    if 1 <= mcode::opcode::length_of(i.op) {
+        text(out, used, b" ");
+        name(out, used, i.op);
+    }
+}
+
+fn put_cause(out: &mut Block, used: &mut usize, cause: Cause) {
+    let letters = words_of(cause);
+    let n = words_length(cause);
+    let all: &[u8] = &letters;
+    text(out, used, b"  <- ");
+    if n <= all.len() {
+        text(out, used, &all[0..n]);
+    }
+}
+
+// What is wrong with an instruction, at the end of its line.
+fn put_note(out: &mut Block, used: &mut usize, note: u8) {
+    match note {
+        marks::OPCODE => put_cause(out, used, Cause::Opcode),
+        marks::OPERANDS => put_cause(out, used, Cause::Operands),
+        marks::NAME => put_cause(out, used, Cause::Name),
+        marks::SUCCESSOR => put_cause(out, used, Cause::Successor),
+        marks::MEET => text(out, used, b"  <- two depths meet"),
+        marks::RULE => text(out, used, b"  <- the depth does not fit"),
+        _ => {}
+    }
 }
 
 // The next position to look at, and the end of what the lines before it show.
@@ -105,7 +139,15 @@ fn largest(a: usize, b: usize) -> usize {
     if a < b { b } else { a }
 }
 
-// A marked instruction.
+// Where an instruction at p ends; one that is not listed, or whose operands lie outside the code, is one byte.
+fn end_of(p: u16, size: u8) -> usize {
+    if size == 0 {
+        return p as usize + 1;
+    }
+    p as usize + size as usize
+}
+
+// A marked instruction, with what is noted of it. Answers where it ends.
 fn put_marked(
     out: &mut Block,
     used: &mut usize,
@@ -113,13 +155,16 @@ fn put_marked(
     m: Module,
     p: u16,
     mark: u8,
+    note: u8,
 ) -> usize {
     put_labels(out, used, image, m, p);
     let i = instruction_at(image, m, p);
     put_place(out, used, p as usize);
     put_depth(out, used, mark);
     put_instruction(out, used, image, m, p, i);
-    p as usize + i.size as usize
+    put_note(out, used, note);
+    text(out, used, b"\n");
+    end_of(p, i.size)
 }
 
 // The end of the unmarked bytes from `at` on, of which a line shows at most 8.
@@ -161,6 +206,7 @@ fn put_line(
     image: &[u8],
     m: Module,
     marks: &[u8],
+    notes: &[u8],
     here: Place,
 ) -> Place
     requires { ⌜ (here .at < length (now marks)) × (here .at < 65536) ⌝ }
@@ -170,7 +216,8 @@ fn put_line(
     let shown = here.shown;
     let mark = marks[at];
     if mark != 0xff {
-        let e = put_marked(out, used, image, m, at as u16, mark);
+        let note = byte_from(notes, 0, at);
+        let e = put_marked(out, used, image, m, at as u16, mark, note);
         return Place {
             at: at + 1,
             shown: largest(shown, e),
@@ -183,12 +230,19 @@ fn put_line(
     Place { at: e, shown }
 }
 
-// The code by the marks of its positions: every byte stands in a line.
-pub fn put_code(out: &mut Block, used: &mut usize, image: &[u8], m: Module, marks: &[u8])
+// The code by the marks of its positions, with what is noted of them: every byte stands in a line.
+pub fn put_code(
+    out: &mut Block,
+    used: &mut usize,
+    image: &[u8],
+    m: Module,
+    marks: &[u8],
+    notes: &[u8],
+)
     requires { ⌜ length (now marks) ≡ m .length ⌝ }
 {
     let mut here = Place { at: 0, shown: 0 };
     while here.at < marks.len() {
-        here = put_line(out, used, image, m, marks, here);
+        here = put_line(out, used, image, m, marks, notes, here);
     }
 }

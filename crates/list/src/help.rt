@@ -23,6 +23,7 @@ pub fn put_help() {
     text(b"instruction. FILE - is standard input; -h and --help print this text.\n\n");
     put_columns();
     text(b"Bytes that no marked instruction covers are shown as unreached. An image that\n");
-    text(b"load refuses shows the refusal; one that is refused with 8, no depths fit, also\n");
-    text(b"shows its code, from the beginning and again from each entry, with - for depths.\n");
+    text(b"load refuses shows the refusal. With 13 or 8 it also shows its code, as far as it\n");
+    text(b"is reached from the entries whatever the depth: with the depths that were found,\n");
+    text(b"else -, and behind <- what is wrong with a line.\n");
 }

@@ -1,8 +1,8 @@
-// list: images with their modules, procedures and code, one line an instruction, with the depths that load marks.
+// list: images with their modules, procedures and code, one line an instruction, with the depths that load marks; of code that load
+// refuses, what is reached and what is wrong there.
 mod code;
 mod help;
 mod show;
-mod sweep;
 
 use console::files::Filled;
 use console::files::contents;
@@ -80,6 +80,7 @@ fn list_bytes(
     image: &mut [u8],
     n: usize,
     map: &mut [u8],
+    notes: &mut [u8],
 ) {
     if 65535 < n {
         refusal(b"list", name, 1, Place::Unknown);
@@ -89,7 +90,7 @@ fn list_bytes(
         text(out, used, b"\n");
     }
     if n <= image.len() {
-        show::put_image(out, used, name, &mut image[0..n], map);
+        show::put_image(out, used, name, &mut image[0..n], map, notes);
     }
 }
 
@@ -100,9 +101,10 @@ fn list_file(out: &mut Block, used: &mut usize, i: usize) {
     let name = &buffer[..length];
     let mut image = io::large_buffer();
     let mut map = io::large_buffer();
+    let mut notes = io::large_buffer();
     match contents(b"list", name, &mut image) {
         Filled::Failed => {}
-        Filled::Bytes(n) => list_bytes(out, used, i, name, &mut image, n, &mut map),
+        Filled::Bytes(n) => list_bytes(out, used, i, name, &mut image, n, &mut map, &mut notes),
     }
 }
 

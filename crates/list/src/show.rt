@@ -1,11 +1,13 @@
 // An image with its modules.
 use crate::code::put_code;
 use crate::code::put_columns;
-use crate::sweep::put_sweep;
 use console::fault;
+use console::print::Place;
 use console::print::line_end;
 use console::print::refusal;
 use console::print::refused_as;
+use explain::Why;
+use explain::marks;
 use libc::STDOUT_FILENO;
 use listing::block::Block;
 use listing::block::flush;
@@ -15,6 +17,8 @@ use listing::procedure::Procedure;
 use listing::procedure::procedure_of;
 use mcode::Module;
 use mcode::Program;
+ghost use mathlib.Core.Path.{_≡_};
+ghost use lib.ListN.{length};
 
 // The name, the count of bytes, and the count of modules where the image was read.
 fn put_heading(out: &mut Block, used: &mut usize, name: &[u8], bytes: usize, modules: usize) {
@@ -54,10 +58,72 @@ fn put_module_line(out: &mut Block, used: &mut usize, number: usize, m: Module) 
     text(out, used, b"\n");
 }
 
-// The module's marks are its part of the map.
-fn put_marked_code(out: &mut Block, used: &mut usize, image: &[u8], m: Module, map: &[u8]) {
+// Notes the place p of module k in the notes of that module's code.
+fn note(notes: &mut [u8], k: usize, unit: u8, p: u16, what: u8) {
+    let at = p as usize;
+    if unit as usize == k {
+        if at < notes.len() {
+            notes[at] = what;
+        }
+    }
+}
+
+// With 8, where the depths do not fit. (What 13 is about is noted by the marks.)
+fn note_why(notes: &mut [u8], k: usize, why: Why) {
+    match why {
+        Why::Unknown => {}
+        Why::Fault(_, _, _, _) => {}
+        Why::Meet(unit, p, _, _, _) => note(notes, k, unit, p, marks::MEET),
+        Why::Rule(unit, p, _, _) => note(notes, k, unit, p, marks::RULE),
+        Why::Call(unit, p, _, _, _) => note(notes, k, unit, p, marks::RULE),
+    }
+}
+
+// Where load refused, the parts of the map and of the notes are filled with what is shown of module k.
+fn fill(image: &[u8], map: &mut [u8], notes: &mut [u8], k: usize, refused: bool, why: Why) {
+    if refused {
+        marks::mark_module(image, map, notes, k);
+        note_why(notes, k, why);
+    }
+}
+
+// The code of module k by its parts of the map and of the notes.
+fn put_part(
+    out: &mut Block,
+    used: &mut usize,
+    image: &[u8],
+    map: &mut [u8],
+    notes: &mut [u8],
+    k: usize,
+    m: Module,
+    refused: bool,
+    why: Why,
+)
+    requires { ⌜ (length (now map) ≡ m .length) × (length (now notes) ≡ m .length) ⌝ }
+{
+    fill(image, map, notes, k, refused, why);
+    put_code(out, used, image, m, map, notes);
+}
+
+fn put_module(
+    out: &mut Block,
+    used: &mut usize,
+    image: &[u8],
+    map: &mut [u8],
+    notes: &mut [u8],
+    k: usize,
+    m: Module,
+    refused: bool,
+    why: Why,
+) {
+    put_module_line(out, used, k, m);
+    put_procedures(out, used, image, m);
+    put_columns(out, used);
     let a = m.code;
     let length = m.length as usize;
+    if notes.len() != map.len() {
+        return;
+    }
     if map.len() < a {
         return;
     }
@@ -65,35 +131,28 @@ fn put_marked_code(out: &mut Block, used: &mut usize, image: &[u8], m: Module, m
         return;
     }
     let e = a + length;
-    put_code(out, used, image, m, &map[a..e]);
-}
-
-fn put_module(
-    out: &mut Block,
-    used: &mut usize,
-    image: &[u8],
-    map: &[u8],
-    number: usize,
-    m: Module,
-    mapped: bool,
-) {
-    put_module_line(out, used, number, m);
-    put_procedures(out, used, image, m);
-    put_columns(out, used);
-    if mapped {
-        put_marked_code(out, used, image, m, map);
-    } else {
-        put_sweep(out, used, image, m);
-    }
+    put_part(
+        out,
+        used,
+        image,
+        &mut map[a..e],
+        &mut notes[a..e],
+        k,
+        m,
+        refused,
+        why,
+    );
 }
 
 fn put_modules(
     out: &mut Block,
     used: &mut usize,
     image: &[u8],
-    map: &[u8],
+    map: &mut [u8],
+    notes: &mut [u8],
     program: Program,
-    mapped: bool,
+    refused: bool,
+    why: Why,
 ) {
     let mut k = 0usize;
     while k < 32 {
@@ -101,34 +160,42 @@ fn put_modules(
             return;
         }
         let m = program.modules[k];
-        put_module(out, used, image, map, k, m, mapped);
+        put_module(out, used, image, map, notes, k, m, refused, why);
         k += 1;
     }
 }
 
-// A refusal stands in the place of the modules, but for one: with no depths they are shown all the same, since there one finds why.
-// It is told on standard error too.
-pub fn put_image(out: &mut Block, used: &mut usize, name: &[u8], image: &mut [u8], map: &mut [u8]) {
-    let parsed = image::read_image(image);
-    let program = parsed.program;
-    put_heading(out, used, name, image.len(), program.count);
-    let number = engine::load::load(image, map);
-    if number == 0 {
-        put_modules(out, used, image, map, program, true);
-        return;
-    }
-    let place = fault::place(image, number);
+// The refusal, in the place of the modules, and on standard error.
+fn put_refusal(out: &mut Block, used: &mut usize, name: &[u8], number: u16, place: Place) {
     if flush(out, used) {
         refused_as(STDOUT_FILENO, number, place);
         line_end();
     }
     refusal(b"list", name, number, place);
-    if number == 8 {
-        text(
-            out,
-            used,
-            b"no depth map: the code is shown from its beginning and again from each entry\n",
-        );
-        put_modules(out, used, image, map, program, false);
+}
+
+// A refusal stands in the place of the modules, but for 13 and 8: there they are shown all the same, as far as the code is reached, with what
+// is wrong.
+pub fn put_image(
+    out: &mut Block,
+    used: &mut usize,
+    name: &[u8],
+    image: &mut [u8],
+    map: &mut [u8],
+    notes: &mut [u8],
+) {
+    let parsed = image::read_image(image);
+    let program = parsed.program;
+    put_heading(out, used, name, image.len(), program.count);
+    let verdict = loader::load::load(image, map);
+    let number = verdict.number;
+    if number == 0 {
+        put_modules(out, used, image, map, notes, program, false, Why::Unknown);
+        return;
+    }
+    let place = fault::found(image, map, number);
+    put_refusal(out, used, name, number, place);
+    if let Place::Code(why) = place {
+        put_modules(out, used, image, map, notes, program, true, why);
     }
 }

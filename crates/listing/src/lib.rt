@@ -1,6 +1,7 @@
 // What a listing of an image shows: the instructions with their names and operands, the procedures, and searches over words and marks.
 pub mod block;
 pub mod bytes;
+pub mod causes;
 pub mod instruction;
 pub mod names;
 pub mod print;

@@ -1,6 +1,7 @@
 // The mnemonics of the published table, for the opcodes that are listed: five letters for each opcode, filled up with blanks, and
 // five blanks for an opcode that is not listed.
 ghost use mathlib.Core.Path.{_≡_};
+ghost use Prim.Native.Nat.{_≤_};
 ghost use Rattle.listing.specs.Mnemonics.{nameOf};
 
 pub const NAMES: [u8; 1280] = *b"\
@@ -34,4 +35,28 @@ pub fn name_of(op: u8) -> [u8; 5]
         names[i + 3],
         names[i + 4],
     ]
+}
+
+// The letters of a name before its blanks.
+pub fn name_length(name: [u8; 5]) -> usize
+    ensures { λ r. ⌜ r ≤ 5 ⌝ }
+{
+    if name[1] == b' ' {
+        return 1;
+    }
+    if name[2] == b' ' {
+        return 2;
+    }
+    if name[3] == b' ' {
+        return 3;
+    }
+    if name[4] == b' ' {
+        return 4;
+    }
+    5
+}
+
+// An opcode as three octal digits.
+pub fn octal_of(op: u8) -> [u8; 3] {
+    [b'0' + op / 64, b'0' + op / 8 % 8, b'0' + op % 8]
 }

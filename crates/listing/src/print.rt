@@ -6,7 +6,9 @@ use crate::bytes::word_of;
 use crate::instruction::Instruction;
 use crate::instruction::Operand;
 use crate::instruction::operand_of;
+use crate::names::name_length;
 use crate::names::name_of;
+use crate::names::octal_of;
 ghost use Prim.Native.Nat.{_≤_};
 
 const DIGITS: [u8; 16] = *b"0123456789ABCDEF";
@@ -63,30 +65,12 @@ pub fn hex(out: &mut Block, used: &mut usize, byte: u8) {
 
 // A byte as three octal digits.
 pub fn octal(out: &mut Block, used: &mut usize, byte: u8) {
-    let digits = [b'0' + byte / 64, b'0' + byte / 8 % 8, b'0' + byte % 8];
+    let digits = octal_of(byte);
     text(out, used, &digits);
 }
 
-// The letters of a name before its blanks.
-fn name_length(name: [u8; 5]) -> usize
-    ensures { λ r. ⌜ r ≤ 5 ⌝ }
-{
-    if name[1] == b' ' {
-        return 1;
-    }
-    if name[2] == b' ' {
-        return 2;
-    }
-    if name[3] == b' ' {
-        return 3;
-    }
-    if name[4] == b' ' {
-        return 4;
-    }
-    5
-}
-
-fn name(out: &mut Block, used: &mut usize, op: u8) -> usize
+// The name of an opcode.
+pub fn name(out: &mut Block, used: &mut usize, op: u8) -> usize
     ensures { λ r. ⌜ r ≤ 5 ⌝ }
 {
     let letters = name_of(op);

@@ -1,7 +1,6 @@
--- The fewest assignment is one, and so load's answer is determined. Assumes nothing.
-use mathlib.Core.Path.{_≡_, refl, sym, ap, _∙_, subst}
-use mathlib.Core.Logic.{_⊎_, inl, inr}
-use mathlib.Core.Bool.{Bool, true, false}
+-- The fewest assignment is one, the position at fault is one, and so load's answer is determined. Assumes nothing.
+use mathlib.Core.Path.{_≡_, refl, sym, ap, ap₂, _∙_, subst}
+use mathlib.Core.Bool.{Bool, true, false, false≢true}
 use mathlib.Core.List.{List, [], _∷_}
 use Prim.Native.Nat.{ℕ, zero, suc, _+_, _-_, _≤_, _<_}
 use native.Mathlib.Decide.{ℕ-discrete, decLt}
@@ -9,15 +8,18 @@ use native.Mathlib.Omega.{arith}
 use lib.ListN.{length, getD, take, drop, replicate}
 use lib.Seq.{ext-getD, getD-take, getD-drop}
 use lib.Dec.{ltb, leb, eqb}
-use borrow.Author.Tests.{ltb-true, leb-true}
+use borrow.Author.Tests.{ltb-true, leb-true, leb-false}
 use Rattle.mcode.specs.declared.Module.{Module}
 use Rattle.mcode.specs.declared.Program.{Program}
 use Rattle.mcode.specs.Word.{pick, and, anyBelow, byte}
 use Rattle.mcode.specs.Image.{parse, moduleOf, inCode}
-use Rattle.mcode.specs.Depths.{Analysis, mark, Fits, Fewest, NoneFits, Answer, depths, marksOf, KeptPast, Accepted, NoDepths}
-use Rattle.mcode.specs.Run.{Loads}
-use Rattle.mcode.specs.Demands.{FewestUnique, LoadDetermined}
+use Rattle.mcode.specs.Depths.{Analysis, mark, Fits, Fewest, NoneFits, Answer, depths, marksOf, KeptPast, Accepted, Blanked, NoDepths}
+use Rattle.mcode.specs.declared.Verdict.{Verdict}
+use Rattle.mcode.specs.Walk.{Whole, AllWhole, Broken}
+use Rattle.mcode.specs.Run.{verdict, Judged, accepts, breaks, unfit, Loads}
+use Rattle.mcode.specs.Demands.{FewestUnique, MarksReached, LoadDetermined}
 use Rattle.mcode.proofs.Tests.{and-both, any-at}
+use Rattle.mcode.proofs.Reached.{marks-reached}
 
 module _ (A : Analysis) where
   pub fewest-unique : (a b : List ℕ) → Fewest A a → Fewest A b → a ≡ b
@@ -73,29 +75,66 @@ module _ (image : List ℕ) (program : Program) (before a b : List ℕ) where
           ∙ ap (λ (xs : List ℕ). byte xs (i - m .code)) u
           ∙ part-byte m b i (leb-true _ _ x) (ltb-true _ _ y)
 
-  refused-unique : NoDepths image program before a → NoDepths image program before b → a ≡ b
-  refused-unique S R = kept-same (S .kept) (R .kept) (λ i l. S .blank i l ∙ sym (R .blank i l))
+  blanked-unique : Blanked image before a → Blanked image before b → a ≡ b
+  blanked-unique S R = kept-same (S .kept) (R .kept) (λ i l. S .blank i l ∙ sym (R .blank i l))
 
-  not-both : {c d : List ℕ} → Accepted image program before c → NoDepths image program before d → ⊥
-  not-both S R = R .none _ (S .fewest (R .unfit) (R .loaded) .fits)
+-- the position at fault is one
+module _ (image : List ℕ) (program : Program) where
+  pub broken-not : (k p : ℕ) → Broken image program k p → Whole image program (moduleOf program k) → ⊥
+  broken-not k p B h = false≢true (sym (B .fault) ∙ h p (B .reached))
 
--- by the tests of Loads
-decide : (image : List ℕ) (program : Program) (before : List ℕ) (j k : ℕ) (a b : List ℕ) (r : ℕ) (u v : Bool)
-    → pick u ((j ≡ r) × (a ≡ before)) (pick v ((j ≡ 7) × (a ≡ before)) (((j ≡ 0) × Accepted image program before a) ⊎ ((j ≡ 8) × NoDepths image program before a)))
-    → pick u ((k ≡ r) × (b ≡ before)) (pick v ((k ≡ 7) × (b ≡ before)) (((k ≡ 0) × Accepted image program before b) ⊎ ((k ≡ 8) × NoDepths image program before b)))
-    → (j ≡ k) × (a ≡ b)
-decide image program before j k a b r true v S R = (S .0 ∙ sym (R .0), S .1 ∙ sym (R .1))
-decide image program before j k a b r false true S R = (S .0 ∙ sym (R .0), S .1 ∙ sym (R .1))
-decide image program before j k a b r false false S R = go S R
-  where
-    go : ((j ≡ 0) × Accepted image program before a) ⊎ ((j ≡ 8) × NoDepths image program before a)
-        → ((k ≡ 0) × Accepted image program before b) ⊎ ((k ≡ 8) × NoDepths image program before b) → (j ≡ k) × (a ≡ b)
-    go (inl x) (inl y) = (x .0 ∙ sym (y .0), accepted-unique image program before a b (x .1) (y .1))
-    go (inl x) (inr y) = absurd (not-both image program before a b (x .1) (y .1))
-    go (inr x) (inl y) = absurd (not-both image program before b a (y .1) (x .1))
-    go (inr x) (inr y) = (x .0 ∙ sym (y .0), refused-unique image program before a b (x .1) (y .1))
+  first-module : (k p j q : ℕ) → Broken image program k p → Broken image program j q → k < j → ⊥
+  first-module k p j q B C l = broken-not k p B (C .first k l)
+
+  lowest-place : (k p q : ℕ) → Broken image program k p → Broken image program k q → p < q → ⊥
+  lowest-place k p q B C l = false≢true (sym (B .fault) ∙ C .lowest p l (B .reached))
+
+  broken-unique : (k p j q : ℕ) → Broken image program k p → Broken image program j q → (k ≡ j) × (p ≡ q)
+  broken-unique k p j q B C = same-unit (equal k j (first-module k p j q B C) (first-module j q k p C B))
+    where
+      equal : (x y : ℕ) → (x < y → ⊥) → (y < x → ⊥) → x ≡ y
+      equal x y f g = go (decLt x y) (decLt y x)
+        where
+          go : Dec (x < y) → Dec (y < x) → x ≡ y
+          go (yes l) h = absurd (f l)
+          go (no n) (yes l) = absurd (g l)
+          go (no n) (no h) = omega arith
+
+      same-unit : k ≡ j → (k ≡ j) × (p ≡ q)
+      same-unit e =
+          let D : Broken image program k q = subst (λ (i : ℕ). Broken image program i q) (sym e) C in
+          (e, equal p q (lowest-place k p q B D) (lowest-place k q p D B))
+
+-- of a program that was read
+module _ (image : List ℕ) (read : parse image .refusal ≡ 0) (before : List ℕ) where
+  abbrev P : Program
+  P = parse image .program
+
+  accepted-whole : {a : List ℕ} → Accepted image P before a → AllWhole image P
+  unfolding MarksReached
+  accepted-whole A k l = marks-reached image read k l _ (A .fewest k l) .whole
+
+  judged-unique : (v w : Verdict) (a b : List ℕ) → Judged image P before v a → Judged image P before w b → (v ≡ w) × (a ≡ b)
+  judged-unique v w a b (accepts e A) (accepts f B) = (e ∙ sym f, accepted-unique image P before a b A B)
+  judged-unique v w a b (accepts e A) (breaks f B y) = absurd (broken-not image P _ _ B (accepted-whole A _ (B .loaded)))
+  judged-unique v w a b (accepts e A) (unfit f h N y) = absurd (N .none _ (A .fewest (N .unfit) (N .loaded) .fits))
+  judged-unique v w a b (breaks e B x) (accepts f A) = absurd (broken-not image P _ _ B (accepted-whole A _ (B .loaded)))
+  judged-unique v w a b (breaks e B x) (breaks f C y) =
+      let (s, t) = broken-unique image P _ _ _ _ B C in
+      (ap₂ (λ (n u : ℕ). record { number = n; unit = u; pc = v .pc }) (e ∙ sym f) s ∙ ap (λ (p : ℕ). record { number = w .number; unit = w .unit; pc = record { 0 = p } }) t, blanked-unique image P before a b x y)
+  judged-unique v w a b (breaks e B x) (unfit f h N y) = absurd (broken-not image P _ _ B (h _ (B .loaded)))
+  judged-unique v w a b (unfit e h N x) (accepts f A) = absurd (N .none _ (A .fewest (N .unfit) (N .loaded) .fits))
+  judged-unique v w a b (unfit e h N x) (breaks f B y) = absurd (broken-not image P _ _ B (h _ (B .loaded)))
+  judged-unique v w a b (unfit e h N x) (unfit f g M y) = (e ∙ sym f, blanked-unique image P before a b x y)
 
 pub load-determined : LoadDetermined
 unfolding LoadDetermined
-load-determined image before j k a b S R =
-    decide image (parse image .program) before j k a b (parse image .refusal) (leb 1 (parse image .refusal)) (ltb (length before) (length image)) S R
+load-determined image before v w a b = by-tests (leb 1 (parse image .refusal)) refl (ltb (length before) (length image))
+  where
+    by-tests : (r : Bool) → leb 1 (parse image .refusal) ≡ r → (t : Bool)
+        → pick r ((v ≡ verdict (parse image .refusal)) × (a ≡ before)) (pick t ((v ≡ verdict 7) × (a ≡ before)) (Judged image (parse image .program) before v a))
+        → pick r ((w ≡ verdict (parse image .refusal)) × (b ≡ before)) (pick t ((w ≡ verdict 7) × (b ≡ before)) (Judged image (parse image .program) before w b))
+        → (v ≡ w) × (a ≡ b)
+    by-tests true h t S R = (S .0 ∙ sym (R .0), S .1 ∙ sym (R .1))
+    by-tests false h true S R = (S .0 ∙ sym (R .0), S .1 ∙ sym (R .1))
+    by-tests false h false S R = judged-unique image (omega (arith, leb-false 1 (parse image .refusal) h)) before v w a b S R

@@ -16,8 +16,9 @@ use Rattle.mcode.specs.declared.Flow.the-variants.{Fault, Ends, To, Fork
 use Rattle.mcode.specs.declared.Program.{Program}
 use Rattle.mcode.specs.Word.{pick, and, or, allBelow, anyBelow, byte}
 use Rattle.mcode.specs.Image.{parse, moduleOf, inCode}
-use Rattle.mcode.specs.Depths.{Analysis, mark, Marked, Follows, Fits, Fewest, NoneFits, fits, unmarked, depths, marksOf, mapFits, KeptPast, Accepted, NoDepths}
-use Rattle.mcode.specs.Run.{Loads}
+use Rattle.mcode.specs.Depths.{Analysis, mark, Marked, Follows, Fits, Fewest, NoneFits, fits, unmarked, depths, marksOf, mapFits, KeptPast, Accepted, Blanked}
+use Rattle.mcode.specs.Walk.{wholeAt, walk, Reached, Whole}
+use Rattle.mcode.specs.Run.{verdict, faultAt, Judged, accepts as judges, breaks, unfit, Loads}
 use Rattle.mcode.proofs.Tests.{and-both, or-either, or-second, not-is, all-at, any-at, inside, fits-says}
 
 -- a position and a mark
@@ -212,13 +213,41 @@ acceptTest image map =
     (and (mapFits image (parse image .program) map)
     (allBelow (parse image .program .count) (λ k. leastTest (depths image (parse image .program) (moduleOf (parse image .program) k)) (marksOf map (moduleOf (parse image .program) k)))))
 
-unfoldable pub refuseTest : List ℕ → Bool
-refuseTest image = anyBelow (parse image .program .count) (λ k. clashTest (depths image (parse image .program) (moduleOf (parse image .program) k)))
+-- the n positions from p on, marked 0 where they are among the places
+unfoldable pub setFrom : Analysis → List Place → ℕ → ℕ → List ℕ
+setFrom A all zero p = []
+setFrom A all (suc n) p = pick (member A p 0 all) 0 (A .none) ∷ setFrom A all n (p + 1)
+
+-- the forced marks of the walk, as a set of positions
+unfoldable pub setOf : Analysis → List ℕ
+setOf A = setFrom A (forced A) (A .size) 0
+
+-- the set of module k is closed, and its positions below p are not at fault
+unfoldable pub wholeTest : List ℕ → ℕ → ℕ → Bool
+wholeTest image k p =
+    let P = parse image .program in
+    let A = walk image (moduleOf P k) in
+    let s = setOf A in
+    and (fits A s) (allBelow p (λ q. or (eqb (mark A s q) unmarked) (wholeAt image P (moduleOf P k) q)))
+
+unfoldable pub unfitTest : List ℕ → Bool
+unfitTest image =
+    let P = parse image .program in
+    and (allBelow (P .count) (λ k. wholeTest image k (moduleOf P k .length)))
+    (anyBelow (P .count) (λ k. clashTest (depths image P (moduleOf P k))))
+
+unfoldable pub brokenTest : List ℕ → ℕ → ℕ → Bool
+brokenTest image k p =
+    let P = parse image .program in
+    and (ltb k (P .count))
+    (and (member (walk image (moduleOf P k)) p 0 (forced (walk image (moduleOf P k))))
+    (and (not (wholeAt image P (moduleOf P k) p))
+    (and (allBelow k (λ j. wholeTest image j (moduleOf P j .length))) (wholeTest image k p))))
 
 long-enough : (image : List ℕ) → ltb (length (replicate {A = ℕ} (length image) 0)) (length image) ≡ false
 long-enough image = le-ltb (length (replicate {A = ℕ} (length image) 0)) (length image) (omega (arith, length-replicate {A = ℕ} (length image) 0))
 
-pub accepts : (image map : List ℕ) → parse image .refusal ≡ 0 → acceptTest image map ≡ true → Loads image (replicate (length image) 0) 0 map
+pub accepts : (image map : List ℕ) → parse image .refusal ≡ 0 → acceptTest image map ≡ true → Loads image (replicate (length image) 0) (verdict 0) map
 unfolding acceptTest mapFits
 accepts image map e t =
     let P = parse image .program in
@@ -226,34 +255,75 @@ accepts image map e t =
     let (b, c) = and-both _ _ r in
     let (x, y) = and-both _ _ b in
     rw (e, long-enough image)
-    (inl (
-      refl,
-      record {
-        fewest = λ k l.
-            let A = depths image P (moduleOf P k) in
-            least A (marksOf map (moduleOf P k))
-            (all-at (P .count) (λ k. fits (depths image P (moduleOf P k)) (marksOf map (moduleOf P k))) x k l)
-            (all-at (P .count) (λ k. leastTest (depths image P (moduleOf P k)) (marksOf map (moduleOf P k))) c k l);
-        outside = λ i l o.
-            eqb-true _ _ (or-second (inCode P i) (eqb (byte map i) unmarked) (λ q. false≢true (sym o ∙ q))
-            (all-at (length image) (λ i. or (inCode P i) (eqb (byte map i) unmarked)) y i l));
-        kept = kept-short image (replicate (length image) 0) map (length-replicate (length image) 0) (eqb-true _ _ a);
-      },
-    ))
+    (judges refl
+    (record {
+      fewest = λ k l.
+          let A = depths image P (moduleOf P k) in
+          least A (marksOf map (moduleOf P k))
+          (all-at (P .count) (λ k. fits (depths image P (moduleOf P k)) (marksOf map (moduleOf P k))) x k l)
+          (all-at (P .count) (λ k. leastTest (depths image P (moduleOf P k)) (marksOf map (moduleOf P k))) c k l);
+      outside = λ i l o.
+          eqb-true _ _ (or-second (inCode P i) (eqb (byte map i) unmarked) (λ q. false≢true (sym o ∙ q))
+          (all-at (length image) (λ i. or (inCode P i) (eqb (byte map i) unmarked)) y i l));
+      kept = kept-short image (replicate (length image) 0) map (length-replicate (length image) 0) (eqb-true _ _ a);
+    }))
 
-pub refuses-8 : (image : List ℕ) → parse image .refusal ≡ 0 → refuseTest image ≡ true → Loads image (replicate (length image) 0) 8 (replicate (length image) unmarked)
-unfolding refuseTest
+-- a blank map
+abbrev blank : List ℕ → List ℕ
+blank image = replicate (length image) unmarked
+
+blanked : (image : List ℕ) → Blanked image (replicate (length image) 0) (blank image)
+blanked image = record {
+  blank = λ i h. getD-replicate (length image) i unmarked 0 h;
+  kept = kept-short image (replicate (length image) 0) (blank image) (length-replicate (length image) 0) (length-replicate (length image) unmarked);
+}
+
+whole-below : (image : List ℕ) (k p : ℕ) → wholeTest image k p ≡ true → (q : ℕ) → q < p → Reached image (moduleOf (parse image .program) k) q
+    → wholeAt image (parse image .program) (moduleOf (parse image .program) k) q ≡ true
+unfolding wholeTest
+whole-below image k p t q l r =
+    let P = parse image .program in
+    let A = walk image (moduleOf P k) in
+    let s = setOf A in
+    let (f, e) = and-both (fits A s) (allBelow p (λ q. or (eqb (mark A s q) unmarked) (wholeAt image P (moduleOf P k) q))) t in
+    or-second (eqb (mark A s q) unmarked) (wholeAt image P (moduleOf P k) q) (λ z. r s (fits-says A s f) (eqb-true _ _ z))
+    (all-at p (λ q. or (eqb (mark A s q) unmarked) (wholeAt image P (moduleOf P k) q)) e q l)
+
+-- a reached position lies in the set, and so in the code
+whole-module : (image : List ℕ) (k : ℕ) → wholeTest image k (moduleOf (parse image .program) k .length) ≡ true → Whole image (parse image .program) (moduleOf (parse image .program) k)
+unfolding wholeTest
+whole-module image k t q r =
+    let P = parse image .program in
+    let A = walk image (moduleOf P k) in
+    let s = setOf A in
+    let F = fits-says A s (and-both (fits A s) (allBelow (A .size) (λ q. or (eqb (mark A s q) unmarked) (wholeAt image P (moduleOf P k) q))) t .0) in
+    whole-below image k (moduleOf P k .length) t q (omega (arith, inside A s q (r s F), F .sized)) r
+
+pub refuses-8 : (image : List ℕ) → parse image .refusal ≡ 0 → unfitTest image ≡ true → Loads image (replicate (length image) 0) (verdict 8) (blank image)
+unfolding unfitTest
 refuses-8 image e t =
     let P = parse image .program in
-    let (k, l, c) = any-at (P .count) (λ k. clashTest (depths image P (moduleOf P k))) t in
+    let (a, b) = and-both (allBelow (P .count) (λ k. wholeTest image k (moduleOf P k .length))) _ t in
+    let (k, l, c) = any-at (P .count) (λ k. clashTest (depths image P (moduleOf P k))) b in
     rw (e, long-enough image)
-    (inr (
-      refl,
-      record {
-        unfit = k;
-        loaded = l;
-        none = clash (depths image P (moduleOf P k)) c;
-        blank = λ i h. getD-replicate (length image) i unmarked 0 h;
-        kept = kept-short image (replicate (length image) 0) (replicate (length image) unmarked) (length-replicate (length image) 0) (length-replicate (length image) unmarked);
-      },
-    ))
+    (unfit refl (λ j h. whole-module image j (all-at (P .count) (λ k. wholeTest image k (moduleOf P k .length)) a j h))
+    (record { unfit = k; loaded = l; none = clash (depths image P (moduleOf P k)) c }) (blanked image))
+
+pub refuses-13 : (image : List ℕ) (k p : ℕ) → parse image .refusal ≡ 0 → brokenTest image k p ≡ true → Loads image (replicate (length image) 0) (faultAt k p) (blank image)
+unfolding brokenTest
+refuses-13 image k p e t =
+    let P = parse image .program in
+    let A = walk image (moduleOf P k) in
+    let (a, r₁) = and-both (ltb k (P .count)) _ t in
+    let (b, r₂) = and-both (member A p 0 (forced A)) _ r₁ in
+    let (c, r₃) = and-both (not (wholeAt image P (moduleOf P k) p)) _ r₂ in
+    let (d, f) = and-both (allBelow k (λ j. wholeTest image j (moduleOf P j .length))) (wholeTest image k p) r₃ in
+    rw (e, long-enough image)
+    (breaks refl
+    (record {
+      loaded = ltb-true _ _ a;
+      reached = λ s F z. let y : _≡_ {A = ℕ} 0 unmarked = sym (member-agrees A s F p 0 (forced A) (agrees-forced A s F) b) ∙ z in omega arith;
+      fault = not-is _ c;
+      first = λ j h. whole-module image j (all-at k (λ j. wholeTest image j (moduleOf P j .length)) d j h);
+      lowest = whole-below image k p f;
+    }) (blanked image))

@@ -219,10 +219,13 @@ pub record Accepted (image : List ℕ) (program : Program) (before after : List 
   pub outside : (i : ℕ) → i < length image → inCode program i ≡ false → byte after i ≡ unmarked
   pub kept : KeptPast image before after
 
--- load refuses with 8: some module has no fitting assignment, and the map is "FF over the image's length"
-pub record NoDepths (image : List ℕ) (program : Program) (before after : List ℕ) : Type 0 where
+-- a refusal that fills the map: "FF over the image's length"
+pub record Blanked (image before after : List ℕ) : Type 0 where
+  pub blank : (i : ℕ) → i < length image → byte after i ≡ unmarked
+  pub kept : KeptPast image before after
+
+-- "no depths fit": some module has no fitting assignment
+pub record NoDepths (image : List ℕ) (program : Program) : Type 0 where
   pub unfit : ℕ
   pub loaded : unfit < program .count
   pub none : NoneFits (depths image program (moduleOf program unfit))
-  pub blank : (i : ℕ) → i < length image → byte after i ≡ unmarked
-  pub kept : KeptPast image before after

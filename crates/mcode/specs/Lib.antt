@@ -3,6 +3,7 @@ pub mod Opcode
 pub mod Image
 pub mod Layout
 pub mod Depths
+pub mod Walk
 pub mod Machine
 pub mod Decode
 pub mod Step

@@ -111,6 +111,23 @@ pub enum Ending {
     Stopped(Stop),
 }
 
+// What load answers: the number of the refusal, or 0; with 13 the module and the position at fault, which are both 0 in any other answer.
+pub struct Verdict {
+    pub number: u16,
+    pub unit: u8,
+    pub pc: Position,
+}
+
+// What is wrong with an instruction, whatever the depth: nothing, its opcode is not listed, its operands lie outside the code, a module or
+// a procedure that it names is missing, or a successor lies outside the code.
+pub enum Cause {
+    Nothing,
+    Opcode,
+    Operands,
+    Name,
+    Successor,
+}
+
 // A module of an image: where its code begins in the image and how long it is, the words of its data, its base in the store,
 // the count of its procedure records (0: none, and procedure 0 enters at 0), and where they begin in the image.
 pub struct Module {

@@ -76,5 +76,5 @@ pub fn put_help() {
     put(b"Stops:\n");
     put_entries(30, 41);
     put(b"\nRefusals:\n");
-    put_entries(1, 13);
+    put_entries(1, 14);
 }

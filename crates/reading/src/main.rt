@@ -43,7 +43,7 @@ fn put_reading(name: &[u8], image: &mut [u8], map: &mut [u8], store: &mut [u16],
     match ending {
         Ending::Refused(number) => {
             print::refused(number);
-            let place = fault::place(image, number);
+            let place = fault::found(image, map, number);
             print::refusal(b"reading", name, number, place);
         }
         Ending::Stopped(stop) => {

@@ -21,12 +21,12 @@ use console::print::refusal;
 use console::print::refused_as;
 use console::words;
 use engine::run::Ran;
-use engine::start::start;
 use libc::STDERR_FILENO;
 use libc::STDOUT_FILENO;
 use listing::block::Block;
 use listing::block::flush;
 use listing::block::text;
+use loader::start::start;
 use mcode::Ending;
 use mcode::Machine;
 ghost use Prim.Native.Nat.{_≤_};
@@ -48,10 +48,11 @@ fn put_refusal(
     name: &[u8],
     image: &mut [u8],
     n: usize,
+    map: &mut [u8],
     number: u16,
 ) {
     if n <= image.len() {
-        let place = fault::place(&mut image[0..n], number);
+        let place = fault::found(&mut image[0..n], map, number);
         if flush(out, used) {
             refused_as(STDOUT_FILENO, number, place);
             line_end();
@@ -161,7 +162,8 @@ fn put_image(
     out: &mut Block,
     used: &mut usize,
 ) -> u16 {
-    let number = engine::load::load(image, map);
+    let verdict = loader::load::load(image, map);
+    let number = verdict.number;
     if 1 <= number {
         return number;
     }
@@ -213,7 +215,7 @@ fn put_bytes(
         used,
     );
     if 1 <= number {
-        put_refusal(out, used, name, image, n, number);
+        put_refusal(out, used, name, image, n, &mut map, number);
     }
 }
 

@@ -17,9 +17,10 @@ use crate::reading::Run;
 use crate::reading::read_case;
 use crate::reading::read_run;
 use engine::run::Ran;
-use engine::start::Started;
+use loader::start::Started;
 use mcode::Ending;
 use mcode::Machine;
+use mcode::Verdict;
 
 // How far the input was read and the text's buffer is full.
 pub struct Places {
@@ -80,30 +81,33 @@ fn code_of(ending: Ending) -> u16 {
 }
 
 // Load, start and run on the first words or bytes of the buffers, as many as the case says: never more than there are.
-fn load_part(image: &[u8], n: usize, map: &mut [u8], m: usize) -> u16 {
+fn load_part(image: &[u8], n: usize, map: &mut [u8], m: usize) -> Verdict {
     if m <= map.len() {
-        return engine::load::load(bytes_of(image, n), &mut map[0..m]);
+        return loader::load::load(bytes_of(image, n), &mut map[0..m]);
     }
-    0
+    loader::load::load(bytes_of(image, n), map)
 }
 
 fn start_part(image: &[u8], n: usize, store: &mut [u16], w: usize) -> Started {
     if w <= store.len() {
-        return engine::start::start(bytes_of(image, n), &mut store[0..w]);
+        return loader::start::start(bytes_of(image, n), &mut store[0..w]);
     }
-    engine::start::start(bytes_of(image, n), store)
+    loader::start::start(bytes_of(image, n), store)
 }
 
 fn print_begun(
     text: &mut [u8; 4096],
     at: usize,
-    load: u16,
+    load: Verdict,
     map: &[u8],
     started: Started,
     store: Sums,
 ) -> usize {
     let machine = started.machine;
-    let mut next = put_named(text, at, b"load", load as u64);
+    let pc = load.pc.0;
+    let mut next = put_named(text, at, b"load", load.number as u64);
+    next = put_named(text, next, b" place", load.unit as u64);
+    next = put_word(text, next, pc);
     next = put_text(text, next, b" map ");
     next = put_bytes(text, next, map);
     next = put_named(text, next, b" start", started.number as u64);

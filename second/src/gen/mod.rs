@@ -1,6 +1,7 @@
 //! The seeded generator of cases. Case `index` of a seed is always the same.
 
 mod code;
+mod fault;
 pub mod rng;
 mod state;
 
@@ -12,6 +13,7 @@ use crate::image::{Procedure, ONLY_PROCEDURE};
 use crate::machine::Machine;
 use crate::opcode::{self, CL, DADD, DSUB, JP, LED, LGD, LID, PAIRS, RTN, SED, SGD, TRA, TRAP};
 use code::{program, program_with_wrong_return, some_word, Shape};
+use fault::{add_fault, Kind, FORMS, KINDS};
 use rng::Rng;
 use state::{Place, World};
 
@@ -67,7 +69,7 @@ pub const SMALL: Scale = Scale {
     alterations: 2,
     machine_runs: 4,
     large_parts: 20,
-    large_rounds: 11,
+    large_rounds: 10,
     own_inputs: 8,
 };
 
@@ -76,7 +78,8 @@ pub fn case(scale: &Scale, seed: u64, index: u64) -> Case {
     let rng = &mut Rng::for_case(seed, index);
     let round = index / 32;
     let mut case = match index % 32 {
-        0..=6 => program_case(rng, scale),
+        0..=5 => program_case(rng, scale),
+        6 => fault_case(rng, scale, round),
         7 => wrong_return_case(rng, scale),
         8 => shared_code_case(rng, scale),
         9 => {
@@ -253,6 +256,11 @@ fn share(rng: &mut Rng, module: &mut Source, place: Place) {
         let [high, low] = place.position.wrapping_sub(operand).to_be_bytes();
         module.code.extend([JP, high, low]);
     }
+    add_procedure(module, procedure);
+}
+
+/// One more procedure.
+fn add_procedure(module: &mut Source, procedure: Procedure) {
     if module.procedures.is_empty() {
         module.procedures.push(ONLY_PROCEDURE);
     }
@@ -263,6 +271,24 @@ fn share(rng: &mut Rng, module: &mut Source, place: Place) {
 fn other_results(rng: &mut Rng, results: u8) -> u8 {
     let more = rng.within(1, MOST_RESULTS.into()) as u8;
     (results + more) % (MOST_RESULTS + 1)
+}
+
+/// A program whose code is not whole. Kinds and forms come in turn, each kind
+/// with one form after another.
+fn fault_case(rng: &mut Rng, scale: &Scale, round: u64) -> Case {
+    let round = round as usize;
+    let kind = KINDS[round % KINDS.len()];
+    let form = FORMS[(round + round / KINDS.len()) % FORMS.len()];
+    let shape = any_shape(rng, scale);
+    let mut modules = program(rng, &shape);
+    add_fault(rng, &mut modules, kind, form);
+    let mut case = case_of(rng, encode(&modules), 1000);
+    if kind == Kind::ShortMap {
+        let shorter = rng.below(case.image.len());
+        case.map_length = rng.pick(&[case.image.len() - 1, shorter]);
+    }
+    case.runs = vec![plain_run(rng, 10)];
+    case
 }
 
 /// Single steps, or a few, from machines at any marked position.
@@ -649,7 +675,7 @@ fn large_case(rng: &mut Rng, kind: u64) -> Case {
         };
         program(rng, &shape)
     };
-    let (image, store_length) = match kind % 9 {
+    let (image, store_length) = match kind % 10 {
         // 32 modules in the largest store.
         0 => (encode(&many(rng, 32, 3, 1900)), 65_535),
         // One code of 32,767 bytes.
@@ -677,7 +703,13 @@ fn large_case(rng: &mut Rng, kind: u64) -> Case {
         // One code too long by a byte.
         7 => (encode(&[filled(32_768)]), 4_096),
         // A store too long by a word.
-        _ => (encode(&many(rng, 1, 1, 10)), 65_536),
+        8 => (encode(&many(rng, 1, 1, 10)), 65_536),
+        // A fault at the last position that there is.
+        _ => {
+            let mut module = filled(32_767);
+            module.code[32_766] = 0o021;
+            (encode(&[module]), 4_096)
+        }
     };
     let mut case = case_of(rng, image, store_length);
     for budget in [0, 100, 40_000] {

@@ -42,7 +42,7 @@ impl World {
     pub fn of(rng: &mut Rng, shape: &Shape, modules: &[Source]) -> World {
         let image = encode(modules);
         let mut map = vec![0; image.len()];
-        let number = api::load(&image, &mut map);
+        let number = api::load(&image, &mut map).number;
         assert_eq!(number, 0, "the generator wrote a program that load refuses");
         let program = parse(&image).expect("load has parsed it");
         let places = places(&program, &image, &map);

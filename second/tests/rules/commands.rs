@@ -72,19 +72,45 @@ fn reading_sees_the_last_byte() {
     assert_eq!(text(&second(&["reading"], &longer).stdout), "refused 1\n");
 }
 
+/// What the command `map` prints of an image.
+fn map_of(name: &str, image: &[u8]) -> String {
+    let path = file(name, image);
+    let output = second(&["map", path.to_str().unwrap()], &[]);
+    assert_eq!(output.status.code(), Some(0));
+    text(&output.stdout).to_string()
+}
+
 #[test]
 fn map() {
-    let path = file("mapped", &EXAMPLE);
-    let output = second(&["map", path.to_str().unwrap()], &[]);
-    assert_eq!(text(&output.stdout), "load 0\nFF FF FF FF 00 01 02 00\n");
-    let path = file("unfit", &[1, 0, 0, 1, 2]);
-    let output = second(&["map", path.to_str().unwrap()], &[]);
-    assert_eq!(text(&output.stdout), "load 8\n");
+    assert_eq!(
+        map_of("mapped", &EXAMPLE),
+        "load 0\nFF FF FF FF 00 01 02 00\n"
+    );
+    assert_eq!(map_of("unfit", &[1, 0, 0, 1, 0xC4]), "load 8\n");
+    assert_eq!(map_of("short", &[1, 0, 0, 1]), "load 3\n");
     // LI1 and RTN in a procedure with one result: depth + 17 × results.
-    let path = file("result", &[1, 2, 1, 0, 2, 0, 0, 0, 1, 0x01, 0xEC]);
-    let output = second(&["map", path.to_str().unwrap()], &[]);
-    let expected = "load 0\nFF FF FF FF FF FF FF FF FF 11 12\n";
-    assert_eq!(text(&output.stdout), expected);
+    assert_eq!(
+        map_of("result", &[1, 2, 1, 0, 2, 0, 0, 0, 1, 0x01, 0xEC]),
+        "load 0\nFF FF FF FF FF FF FF FF FF 11 12\n"
+    );
+}
+
+/// For 13 the module, the position and the cause.
+#[test]
+fn map_of_code_that_is_not_whole() {
+    for (code, expected) in [
+        ([0o336, 0o021, 0o354], "1: unlisted opcode"),
+        ([0o336, 0o336, 0o020], "2: operands outside the code"),
+        ([0o042, 2, 0], "0: no such module"),
+        ([0o360, 1, 0o354], "0: no such procedure"),
+        ([0o336, 0o033, 1], "1: jump to a target outside the code"),
+        ([0o336, 0o336, 0o336], "2: next position outside the code"),
+    ] {
+        // Module 0 returns, module 1 has the code.
+        let image = [&[2, 0, 0, 1, 0o354, 0, 0, 3], &code[..]].concat();
+        let expected = format!("load 13 module 1 position {expected}\n");
+        assert_eq!(map_of("not-whole", &image), expected);
+    }
 }
 
 #[test]
@@ -108,7 +134,7 @@ fn small_cases_and_their_coverage() {
     let path = file("cases-small", &[]);
     let path = path.to_str().unwrap();
     let write = |count: &str| {
-        let arguments = ["cases", "--small", "--seed", "2", "--count", count, path];
+        let arguments = ["cases", "--small", "--seed", "20", "--count", count, path];
         assert_eq!(second(&arguments, &[]).status.code(), Some(0));
         second(&["coverage", path], &[])
     };
@@ -128,6 +154,8 @@ fn coverage_that_misses_something_fails() {
     assert!(text(&output.stdout).contains("missing: load never answered 8\n"));
     let narrower = "missing: no images refused with 8 only for a return with one word too many\n";
     assert!(text(&output.stdout).contains(narrower));
+    let fault = "missing: no images refused with 13 for unlisted opcode\n";
+    assert!(text(&output.stdout).contains(fault));
 }
 
 #[test]

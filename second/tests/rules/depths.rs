@@ -1,5 +1,6 @@
 //! The depth rules: hand cases, and the fewest assignment against all others.
 
+use crate::oracle::first_fault;
 use crate::rig::{Rig, FOR_EVER, WORDS};
 use second::assemble::{encode, Source};
 use second::depths::fits;
@@ -16,8 +17,19 @@ fn procedure(entry: u16, parameters: u8, results: u8) -> Procedure {
     }
 }
 
-/// Load's marks of a single module's code, or None for refusal 8.
-fn marks(code: &[u8]) -> Option<Vec<u8>> {
+/// Load's marks, or its refusal with module and position.
+type Marks = Result<Vec<u8>, (u8, u8, u16)>;
+
+/// "8 now means that the code is whole and no depths fit."
+const UNFIT: Marks = Err((8, 0, 0));
+
+/// 13 with this position of module 0.
+fn not_whole(position: u16) -> Marks {
+    Err((13, 0, position))
+}
+
+/// Load's marks of a single module's code.
+fn marks(code: &[u8]) -> Marks {
     module_marks(&[Source::plain(code)])
 }
 
@@ -27,35 +39,33 @@ fn then_for_ever(code: &[u8]) -> Vec<u8> {
 }
 
 /// Load's marks of the last module.
-fn module_marks(modules: &[Source]) -> Option<Vec<u8>> {
+fn module_marks(modules: &[Source]) -> Marks {
     let image = encode(modules);
     let mut map = vec![0x77; image.len()];
     let length = modules.last().unwrap().code.len();
-    match load(&image, &mut map) {
-        0 => Some(map[image.len() - length..].to_vec()),
-        8 => {
-            assert_eq!(map, vec![FF; image.len()]);
-            None
-        }
-        number => panic!("load {number}"),
+    let answer = load(&image, &mut map);
+    if answer.number == 0 {
+        return Ok(map[image.len() - length..].to_vec());
     }
+    assert_eq!(map, vec![FF; image.len()]);
+    Err((answer.number, answer.module, answer.position))
 }
 
 #[test]
 fn operands_lie_in_the_code() {
-    assert_eq!(marks(&[0o020]), None);
-    assert_eq!(marks(&[0o022, 1]), None);
-    assert_eq!(marks(&[0o020, 1]), None);
-    assert_eq!(marks(&[0o020, 1, 0o304]), Some(vec![0, FF, 1]));
-    assert_eq!(marks(&[0o022, 1, 2, 0o304]), Some(vec![0, FF, FF, 1]));
+    assert_eq!(marks(&[0o020]), not_whole(0));
+    assert_eq!(marks(&[0o022, 1]), not_whole(0));
+    assert_eq!(marks(&[0o020, 1]), not_whole(0));
+    assert_eq!(marks(&[0o020, 1, 0o304]), Ok(vec![0, FF, 1]));
+    assert_eq!(marks(&[0o022, 1, 2, 0o304]), Ok(vec![0, FF, FF, 1]));
     // A jump that needs no next position needs its operand.
-    assert_eq!(marks(&[0o033]), None);
-    assert_eq!(marks(&[0o035]), None);
-    assert_eq!(marks(&[0o031, 0xFF]), None);
+    assert_eq!(marks(&[0o033]), not_whole(0));
+    assert_eq!(marks(&[0o035]), not_whole(0));
+    assert_eq!(marks(&[0o031, 0xFF]), not_whole(0));
     // Not merely in the image: LIB at the end of module 0.
     assert_eq!(
         module_marks(&[Source::plain(&[0o020]), Source::plain(&[0o354])]),
-        None
+        not_whole(0)
     );
 }
 
@@ -64,26 +74,27 @@ fn operands_lie_in_the_code() {
 fn the_operands_of_lid_lie_in_the_code() {
     let whole = [0o023, 1, 2, 3, 4];
     for length in 1..5 {
-        assert_eq!(marks(&whole[..length]), None);
+        assert_eq!(marks(&whole[..length]), not_whole(0));
         // Bytes of the next module are no operands.
+        let cut = Source::plain(&whole[..length]);
         let next = Source::plain(&[0o354; 5]);
-        assert_eq!(module_marks(&[Source::plain(&whole[..length]), next]), None);
+        assert_eq!(module_marks(&[cut, next]), not_whole(0));
     }
-    // Whole, but with no next position.
-    assert_eq!(marks(&whole), None);
+    // All operands, but no next position.
+    assert_eq!(marks(&whole), not_whole(0));
     assert_eq!(
         marks(&[0o023, 1, 2, 3, 4, 0o304]),
-        Some(vec![0, FF, FF, FF, FF, 2])
+        Ok(vec![0, FF, FF, FF, FF, 2])
     );
     // The operand bytes may be marked themselves: a jump back into them.
     assert_eq!(
         marks(&[0o023, 0o336, 0o336, 0o336, 0o336, 0o061, 4, 0o035, 5]),
-        None,
+        UNFIT,
         "reached with depth 2 and with depth 0"
     );
     assert_eq!(
         marks(&[0o023, 0o336, 0o336, 0o336, 0o336, 0o035, 5]),
-        Some(vec![0, 2, 2, 2, 2, 2, FF])
+        Ok(vec![0, 2, 2, 2, 2, 2, FF])
     );
     // Run tests a mark at the code's end too.
     for length in 1..5 {
@@ -130,21 +141,22 @@ fn double_words_are_there_and_find_room() {
                 marks.extend([(depth + left - taken) as u8, FF]);
                 marks
             });
+            let expected = expected.map_or(UNFIT, Ok);
             assert_eq!(marks(&code), expected, "{instruction:?} at {depth}");
         }
     }
     // A pair is put over 14 words, not over 15 or 16; LSD takes one before.
     let over = |words: usize, last: &[u8]| then_for_ever(&[&vec![0o001; words], last].concat());
     for load in [&[0o023, 0, 0, 0, 0][..], &[0o041, 0], &[0o101, 0]] {
-        assert!(marks(&over(14, load)).is_some());
-        assert_eq!(marks(&over(15, load)), None);
-        assert_eq!(marks(&over(16, load)), None);
+        assert!(marks(&over(14, load)).is_ok());
+        assert_eq!(marks(&over(15, load)), UNFIT);
+        assert_eq!(marks(&over(16, load)), UNFIT);
     }
-    assert!(marks(&over(15, &[0o202])).is_some());
-    assert_eq!(marks(&over(16, &[0o202])), None);
+    assert!(marks(&over(15, &[0o202])).is_ok());
+    assert_eq!(marks(&over(16, &[0o202])), UNFIT);
     // Sums take four words, not three.
-    assert_eq!(marks(&over(3, &[0o210])), None);
-    assert!(marks(&over(4, &[0o210])).is_some());
+    assert_eq!(marks(&over(3, &[0o210])), UNFIT);
+    assert!(marks(&over(4, &[0o210])).is_ok());
 }
 
 /// "043 and 063 name a module, which must exist, as 042 and 062 do."
@@ -156,23 +168,24 @@ fn modules_of_pairs_exist() {
     let other = Source::plain(&[0o354]);
     for (words, opcode) in [(0, 0o043), (2, 0o063)] {
         let alone = |module| marks(&code(words, opcode, module));
-        assert!(alone(0).is_some());
+        let position = words as u16;
+        assert!(alone(0).is_ok());
         for module in [1, 2, 31, 32, 255] {
-            assert_eq!(alone(module), None);
+            assert_eq!(alone(module), not_whole(position));
         }
         let last_of_two = |module| {
             let last = Source::plain(&code(words, opcode, module));
             module_marks(&[other.clone(), last])
         };
-        assert!(last_of_two(0).is_some());
-        assert!(last_of_two(1).is_some());
-        assert_eq!(last_of_two(2), None);
+        assert!(last_of_two(0).is_ok());
+        assert!(last_of_two(1).is_ok());
+        assert_eq!(last_of_two(2), Err((13, 1, position)));
         // A later module exists too.
         let first = Source::plain(&code(words, opcode, 1));
-        assert!(module_marks(&[first, other.clone()]).is_some());
+        assert!(module_marks(&[first, other.clone()]).is_ok());
         // Where nothing reaches it, any module may stand; run tests a mark.
         let unreached = [&[0o354], &code(0, opcode, 1)[..]].concat();
-        assert_eq!(marks(&unreached), Some(vec![0, FF, FF, FF, FF, FF]));
+        assert_eq!(marks(&unreached), Ok(vec![0, FF, FF, FF, FF, FF]));
         let depth = words as u8;
         let left = 2 - depth;
         assert_eq!(run_number(&unreached, &[0, depth, FF, FF, left, FF]), 12);
@@ -183,16 +196,16 @@ fn modules_of_pairs_exist() {
 
 #[test]
 fn opcodes_are_listed_where_they_are_reached() {
-    assert_eq!(marks(&[0o021]), None);
-    assert_eq!(marks(&[0o033, 2, 0o021, 0o354]), Some(vec![0, FF, FF, 0]));
+    assert_eq!(marks(&[0o021]), not_whole(0));
+    assert_eq!(marks(&[0o033, 2, 0o021, 0o354]), Ok(vec![0, FF, FF, 0]));
 }
 
 #[test]
 fn words_taken_are_there() {
-    assert_eq!(marks(&then_for_ever(&[0o270])), None);
-    assert_eq!(marks(&then_for_ever(&[0o001, 0o270])), None);
-    assert_eq!(marks(&[0o001, 0o001, 0o270, 0o304]), Some(vec![0, 1, 2, 1]));
-    assert_eq!(marks(&[0o304]), None);
+    assert_eq!(marks(&then_for_ever(&[0o270])), UNFIT);
+    assert_eq!(marks(&then_for_ever(&[0o001, 0o270])), UNFIT);
+    assert_eq!(marks(&[0o001, 0o001, 0o270, 0o304]), Ok(vec![0, 1, 2, 1]));
+    assert_eq!(marks(&[0o304]), UNFIT);
 }
 
 #[test]
@@ -200,39 +213,39 @@ fn at_most_16_are_left() {
     // Sixteen literals, COPT puts a seventeenth.
     let code =
         |literals: usize, last: u8| then_for_ever(&[vec![0o001; literals], vec![last]].concat());
-    assert!(marks(&code(15, 0o265)).is_some());
-    assert_eq!(marks(&code(16, 0o265)), None);
-    assert!(marks(&code(15, 0o001)).is_some());
-    assert_eq!(marks(&code(16, 0o001)), None);
-    assert!(marks(&code(16, 0o336)).is_some());
-    assert!(marks(&code(16, 0o140)).is_some());
+    assert!(marks(&code(15, 0o265)).is_ok());
+    assert_eq!(marks(&code(16, 0o265)), UNFIT);
+    assert!(marks(&code(15, 0o001)).is_ok());
+    assert_eq!(marks(&code(16, 0o001)), UNFIT);
+    assert!(marks(&code(16, 0o336)).is_ok());
+    assert!(marks(&code(16, 0o140)).is_ok());
 }
 
 #[test]
 fn successors_lie_in_the_code() {
     // A jump may come last, other instructions may not.
-    assert_eq!(marks(&[0o336]), None);
-    assert_eq!(marks(&[0o336, 0o035, 2]), Some(vec![0, 0, FF]));
-    assert_eq!(marks(&[0o035, 2]), None);
-    assert_eq!(marks(&[0o033, 1]), None);
-    assert_eq!(marks(&[0o033, 1, 0o354]), Some(vec![0, FF, 0]));
-    assert_eq!(marks(&[0o033, 255, 0o354]), None);
-    assert_eq!(marks(&[0o031, 0xFF, 0xFE]), None);
-    assert_eq!(marks(&[0o031, 0xFF, 0xFF]), Some(vec![0, FF, FF]));
-    assert_eq!(marks(&[0o031, 0x80, 0x00]), None);
-    assert_eq!(marks(&[0o031, 0x7F, 0xFF]), None);
+    assert_eq!(marks(&[0o336]), not_whole(0));
+    assert_eq!(marks(&[0o336, 0o035, 2]), Ok(vec![0, 0, FF]));
+    assert_eq!(marks(&[0o035, 2]), not_whole(0));
+    assert_eq!(marks(&[0o033, 1]), not_whole(0));
+    assert_eq!(marks(&[0o033, 1, 0o354]), Ok(vec![0, FF, 0]));
+    assert_eq!(marks(&[0o033, 255, 0o354]), not_whole(0));
+    assert_eq!(marks(&[0o031, 0xFF, 0xFE]), not_whole(0));
+    assert_eq!(marks(&[0o031, 0xFF, 0xFF]), Ok(vec![0, FF, FF]));
+    assert_eq!(marks(&[0o031, 0x80, 0x00]), not_whole(0));
+    assert_eq!(marks(&[0o031, 0x7F, 0xFF]), not_whole(0));
     // Both ways of a conditional jump.
-    assert_eq!(marks(&[0o001, 0o032, 1]), None);
-    assert_eq!(marks(&[0o001, 0o032, 2, 0o354]), None);
+    assert_eq!(marks(&[0o001, 0o032, 1]), not_whole(1));
+    assert_eq!(marks(&[0o001, 0o032, 2, 0o354]), not_whole(1));
     assert_eq!(
         marks(&[0o001, 0o032, 2, 0o336, 0o354]),
-        Some(vec![0, 1, FF, 0, 0])
+        Ok(vec![0, 1, FF, 0, 0])
     );
-    assert_eq!(marks(&[0o001, 0o034, 2]), None);
-    assert_eq!(marks(&[0o001, 0o034, 2, 0o354]), Some(vec![0, 1, FF, 0]));
+    assert_eq!(marks(&[0o001, 0o034, 2]), not_whole(1));
+    assert_eq!(marks(&[0o001, 0o034, 2, 0o354]), Ok(vec![0, 1, FF, 0]));
     assert_eq!(
         marks(&[0o001, 0o030, 0xFF, 0xFE, 0o354]),
-        Some(vec![0, 1, FF, FF, 0])
+        Ok(vec![0, 1, FF, FF, 0])
     );
 }
 
@@ -242,20 +255,20 @@ fn short_circuit_jumps_leave_1_where_they_jump() {
         // The code between puts one word.
         assert_eq!(
             marks(&[0o001, opcode, 2, 0o001, 0o304]),
-            Some(vec![0, 1, FF, 0, 1])
+            Ok(vec![0, 1, FF, 0, 1])
         );
         // With b = 1 both ways meet at once, with different depths.
-        assert_eq!(marks(&then_for_ever(&[0o001, opcode, 1])), None);
+        assert_eq!(marks(&then_for_ever(&[0o001, opcode, 1])), UNFIT);
         // With b = 0 it goes to its own operand, LI0, at depth 1, which then
         // leads to depth 2 where going on leads to 0.
-        assert_eq!(marks(&then_for_ever(&[0o001, opcode, 0])), None);
+        assert_eq!(marks(&then_for_ever(&[0o001, opcode, 0])), UNFIT);
     }
 }
 
 #[test]
 fn operand_bytes_may_be_marked() {
     // JPF 0 goes to its operand, LI0.
-    assert_eq!(marks(&[0o033, 0, 0o304]), Some(vec![0, 0, 1]));
+    assert_eq!(marks(&[0o033, 0, 0o304]), Ok(vec![0, 0, 1]));
 }
 
 #[test]
@@ -264,19 +277,19 @@ fn module_and_procedure_operands_exist() {
         ([0o027, 0, 9], [0o027, 1, 9]),
         ([0o042, 0, 9], [0o042, 1, 9]),
     ] {
-        assert!(marks(&then_for_ever(&good)).is_some());
-        assert_eq!(marks(&then_for_ever(&bad)), None);
+        assert!(marks(&then_for_ever(&good)).is_ok());
+        assert_eq!(marks(&then_for_ever(&bad)), not_whole(0));
     }
-    assert!(marks(&[0o001, 0o062, 0, 9, 0o354]).is_some());
-    assert_eq!(marks(&[0o001, 0o062, 1, 9, 0o354]), None);
-    assert!(marks(&[0o360, 0, 0o354]).is_some());
-    assert_eq!(marks(&[0o360, 1, 0o354]), None);
-    assert_eq!(marks(&[0o361, 0o354]), None);
-    assert!(marks(&[0o001, 0o356, 0, 0o354]).is_some());
-    assert_eq!(marks(&[0o001, 0o356, 1, 0o354]), None);
-    assert!(marks(&[0o355, 0, 0, 0o354]).is_some());
-    assert_eq!(marks(&[0o355, 0, 1, 0o354]), None);
-    assert_eq!(marks(&[0o355, 1, 0, 0o354]), None);
+    assert!(marks(&[0o001, 0o062, 0, 9, 0o354]).is_ok());
+    assert_eq!(marks(&[0o001, 0o062, 1, 9, 0o354]), not_whole(1));
+    assert!(marks(&[0o360, 0, 0o354]).is_ok());
+    assert_eq!(marks(&[0o360, 1, 0o354]), not_whole(0));
+    assert_eq!(marks(&[0o361, 0o354]), not_whole(0));
+    assert!(marks(&[0o001, 0o356, 0, 0o354]).is_ok());
+    assert_eq!(marks(&[0o001, 0o356, 1, 0o354]), not_whole(1));
+    assert!(marks(&[0o355, 0, 0, 0o354]).is_ok());
+    assert_eq!(marks(&[0o355, 0, 1, 0o354]), not_whole(0));
+    assert_eq!(marks(&[0o355, 1, 0, 0o354]), not_whole(0));
 }
 
 #[test]
@@ -293,30 +306,27 @@ fn a_call_has_just_the_parameters_and_leaves_the_results() {
         }
     };
     let calls = |code: &[u8]| module_marks(&[module(code)]);
-    assert_eq!(calls(&[0o361, 0o304]), None);
-    assert_eq!(calls(&[0o001, 0o361, 0o304]), Some(vec![0, 1, 3, 52]));
-    assert_eq!(calls(&[0o001, 0o001, 0o361, 0o304]), None);
-    assert_eq!(
-        calls(&[0o001, 0o360, 1, 0o304]),
-        Some(vec![0, 1, FF, 3, 52])
-    );
+    assert_eq!(calls(&[0o361, 0o304]), UNFIT);
+    assert_eq!(calls(&[0o001, 0o361, 0o304]), Ok(vec![0, 1, 3, 52]));
+    assert_eq!(calls(&[0o001, 0o001, 0o361, 0o304]), UNFIT);
+    assert_eq!(calls(&[0o001, 0o360, 1, 0o304]), Ok(vec![0, 1, FF, 3, 52]));
     // CI's link is taken first.
-    assert_eq!(calls(&[0o001, 0o356, 1, 0o304]), None);
+    assert_eq!(calls(&[0o001, 0o356, 1, 0o304]), UNFIT);
     assert_eq!(
         calls(&[0o001, 0o001, 0o356, 1, 0o304]),
-        Some(vec![0, 1, 2, FF, 3, 52])
+        Ok(vec![0, 1, 2, FF, 3, 52])
     );
     assert_eq!(
         calls(&[0o001, 0o355, 0, 1, 0o304]),
-        Some(vec![0, 1, FF, FF, 3, 52])
+        Ok(vec![0, 1, FF, FF, 3, 52])
     );
-    assert_eq!(calls(&[0o355, 0, 1, 0o304]), None);
+    assert_eq!(calls(&[0o355, 0, 1, 0o304]), UNFIT);
     // A call may not come last.
     let last = Source {
         procedures: vec![procedure(0, 0, 0)],
         ..Source::plain(&[0o360, 0])
     };
-    assert_eq!(module_marks(&[last]), None);
+    assert_eq!(module_marks(&[last]), not_whole(0));
 }
 
 #[test]
@@ -331,7 +341,7 @@ fn every_procedure_is_an_entry() {
             &[procedure(0, 0, 0), procedure(1, 0, 0)],
             &[0o354, 0o021]
         )]),
-        None
+        not_whole(1)
     );
     // Two may share an entry if their parameters agree, and their results.
     let shared = |parameters| {
@@ -342,22 +352,22 @@ fn every_procedure_is_an_entry() {
         ]
     };
     let code = [0o354, 0o304];
-    assert_eq!(module_marks(&[module(&shared(2), &code)]), Some(vec![0, 2]));
-    assert_eq!(module_marks(&[module(&shared(3), &code)]), None);
+    assert_eq!(module_marks(&[module(&shared(2), &code)]), Ok(vec![0, 2]));
+    assert_eq!(module_marks(&[module(&shared(3), &code)]), UNFIT);
     // An entry that the code reaches with another depth.
     let reached = [procedure(0, 0, 0), procedure(1, 2, 0)];
     let code_reached = then_for_ever(&[0o336]);
-    assert_eq!(module_marks(&[module(&reached, &code_reached)]), None);
+    assert_eq!(module_marks(&[module(&reached, &code_reached)]), UNFIT);
     // 16 parameters.
     let full = [procedure(0, 0, 0), procedure(1, 16, 0)];
-    assert_eq!(module_marks(&[module(&full, &code)]), Some(vec![0, 16]));
+    assert_eq!(module_marks(&[module(&full, &code)]), Ok(vec![0, 16]));
 }
 
 #[test]
 fn the_largest_code_is_marked_to_its_end() {
     let mut code = vec![0o336; 32_766];
     code.push(0o354);
-    assert_eq!(marks(&code), Some(vec![0; 32_767]));
+    assert_eq!(marks(&code), Ok(vec![0; 32_767]));
     // The longest jumps: forward by 32,765 from position 1, and back.
     let mut code = vec![0; 32_767];
     code[..3].copy_from_slice(&[0o031, 0x7F, 0xFB]);
@@ -492,7 +502,7 @@ fn small_module(code: &[u8], random: &mut impl FnMut(u64) -> u64) -> Source {
 fn try_every_assignment(module: &Source, values: &[u8]) -> (bool, usize) {
     let image = encode(std::slice::from_ref(module));
     let program = parse(&image).unwrap();
-    let fewest = module_marks(std::slice::from_ref(module));
+    let fewest = module_marks(std::slice::from_ref(module)).ok();
     let mut map = vec![FF; image.len()];
     let part = program.modules[0].code_range();
     let mut found = 0;
@@ -596,6 +606,15 @@ fn naive(code: &[u8], procedures: &[Procedure]) -> Option<Vec<u8>> {
     }
 }
 
+/// What load must answer: 13 before 8.
+fn naive_answer(module: &Source) -> Marks {
+    let image = encode(std::slice::from_ref(module));
+    match first_fault(&parse(&image).unwrap(), &image) {
+        Some((module, position)) => Err((13, module, position)),
+        None => naive(&module.code, &module.procedures).map_or(UNFIT, Ok),
+    }
+}
+
 /// The successors of a position, with their depths.
 fn naive_successors(code: &[u8], p: usize, d: i32, results: i32) -> Option<Vec<(i32, i32)>> {
     let b = code.get(p + 1).map(|&b| i32::from(b));
@@ -630,9 +649,9 @@ fn the_worklist_agrees_with_naive_sweeps() {
             .flat_map(|_| small_code(&mut random))
             .collect();
         let module = small_module(&code, &mut random);
-        let expected = naive(&code, &module.procedures);
+        let expected = naive_answer(&module);
         let results = usize::from(module.procedures[0].results);
-        accepted[results] += usize::from(expected.is_some());
+        accepted[results] += usize::from(expected.is_ok());
         assert_eq!(module_marks(&[module]), expected, "{code:?}");
     }
     assert!(accepted.iter().sum::<usize>() > 5_000, "{accepted:?}");
@@ -652,9 +671,9 @@ fn the_worklist_agrees_on_double_words() {
             .flat_map(|_| small_code_of(&BYTES, &mut random))
             .collect();
         let module = small_module(&code, &mut random);
-        let expected = naive(&code, &module.procedures);
+        let expected = naive_answer(&module);
         assert_eq!(module_marks(&[module]), expected, "{code:?}");
-        if let Some(marks) = expected {
+        if let Ok(marks) = expected {
             let lid = |(&byte, &mark): (&u8, &u8)| byte == 0o023 && mark != FF;
             accepted += 1;
             with_lid += usize::from(code.iter().zip(&marks).any(lid));
@@ -671,7 +690,7 @@ fn the_worklist_agrees_on_double_words() {
 fn load_makes_maps_that_run_takes() {
     let image = encode(&[Source::plain(&[0o001, 0o064, 0o033, 2, 0o021, 0o354])]);
     let mut map = vec![0; image.len() + 3];
-    assert_eq!(load(&image, &mut map), 0);
+    assert_eq!(load(&image, &mut map).number, 0);
     let mut store = vec![0; WORDS];
     let (_, machine) = second::start(&image, &mut store);
     let answer = run(machine, &image, &map, &mut store, &mut [0; 16], &[0; 16], 9);

@@ -13,7 +13,7 @@ use std::cell::Cell;
 use std::ops::Range;
 
 /// The seed of the small cases that are kept in a file.
-const SEED: u64 = 2;
+const SEED: u64 = 20;
 
 #[test]
 fn cases_depend_on_seed_and_index_alone() {
@@ -47,23 +47,40 @@ fn everything_is_covered() {
     for results in 0..=4 {
         assert_eq!(ending(&format!("images with results {results}")), 1);
     }
-    let refused = faults.iter().filter(|f| f.contains(" refused with "));
-    assert_eq!(refused.count(), 4 + 1);
+    let beginning = |begin: &str| faults.iter().filter(|f| f.starts_with(begin)).count();
+    assert_eq!(beginning("no images refused with 8 only for "), 4);
+    assert_eq!(beginning("no runs refused with 12 only for "), 1);
     assert_eq!(ending("on a position with the same results"), 1);
     assert_eq!(ending("on a position with other results"), 1);
+    // What A.3 makes of code that is not whole: six causes, opcodes that have
+    // them, and places.
+    assert!(faults.contains(&"load never answered 13".to_string()));
+    assert_eq!(beginning("no images refused with 13 for "), 6 + 6 + 4 + 8);
+    assert_eq!(beginning("no images refused with 13 "), 24 + 11);
+    assert_eq!(beginning("no images refused with 7 "), 1);
+    assert_eq!(beginning("no images refused with 8 with whole code"), 1);
 }
 
-/// A case of one module, with 16 inputs in each run.
-fn case_of(procedures: &[(u16, u8, u8)], code: &[u8], runs: &[CaseRun]) -> Case {
+/// A module, and entry, parameters and results of its procedures.
+fn module_of(procedures: &[(u16, u8, u8)], code: &[u8]) -> Source {
     let procedure = |&(entry, parameters, results): &(u16, u8, u8)| Procedure {
         entry,
         parameters,
         results,
     };
-    let image = assemble::encode(&[Source {
+    Source {
         procedures: procedures.iter().map(procedure).collect(),
         ..Source::plain(code)
-    }]);
+    }
+}
+
+/// A case of one module, with 16 inputs in each run.
+fn case_of(procedures: &[(u16, u8, u8)], code: &[u8], runs: &[CaseRun]) -> Case {
+    case_of_modules(&[module_of(procedures, code)], runs)
+}
+
+fn case_of_modules(modules: &[Source], runs: &[CaseRun]) -> Case {
+    let image = assemble::encode(modules);
     let mut runs = runs.to_vec();
     runs.iter_mut().for_each(|run| run.inputs = vec![0; 16]);
     Case {
@@ -76,13 +93,19 @@ fn case_of(procedures: &[(u16, u8, u8)], code: &[u8], runs: &[CaseRun]) -> Case 
     }
 }
 
-/// What a case reaches of A.2, but for its marks.
-fn reached_of_results(case: Case) -> Vec<String> {
+/// What a case reaches: what is missing without it, and not with it.
+fn reached(case: Case) -> Vec<String> {
     let faults = |cases: Vec<Case>| Coverage::of(cases.into_iter()).faults();
     let missing = faults(vec![case]);
     let mut reached = faults(vec![]);
     reached.retain(|fault| !missing.contains(fault));
-    reached.retain(|fault| fault.contains("for ") || fault.contains("landings"));
+    reached
+}
+
+/// What a case reaches of A.2, but for its marks.
+fn reached_of_results(case: Case) -> Vec<String> {
+    let mut reached = reached(case);
+    reached.retain(|fault| fault.contains("only for ") || fault.contains("landings"));
     reached
 }
 
@@ -178,6 +201,167 @@ fn landings_are_told_apart() {
     assert_eq!(reached(&[0, 1, 5], 3), [""; 0]);
 }
 
+/// What an image reaches of A.3: ends of lines of the report.
+fn expect_of_whole(modules: &[Source], expected: &[&str]) {
+    let mut reached = reached(case_of_modules(modules, &[]));
+    reached.retain(|fault| fault.starts_with("no images refused with "));
+    reached.retain(|fault| !fault.contains("only for "));
+    let expected = expected
+        .iter()
+        .map(|kind| format!("no images refused with {kind}"));
+    assert_eq!(reached, expected.collect::<Vec<_>>(), "{modules:?}");
+}
+
+/// Each cause, and the opcode where several have it.
+#[test]
+fn causes_of_13_are_told_apart() {
+    let check = |code: &[u8], expected: &[&str]| {
+        expect_of_whole(&[Source::plain(code)], expected);
+    };
+    check(&[0o354], &[]);
+    check(&[0o304], &["8 with whole code"]);
+    check(&[0o021], &["13 for unlisted opcode"]);
+    check(&[0o020], &["13 for operands outside the code"]);
+    check(&[0o336], &["13 for next position outside the code"]);
+    for (opcode, name) in [
+        (0o027, "LEA"),
+        (0o042, "LEW"),
+        (0o043, "LED"),
+        (0o062, "SEW"),
+        (0o063, "SED"),
+        (0o355, "CX"),
+    ] {
+        let at = format!("13 for no such module at {name}");
+        check(&[opcode, 1, 0, 0o354], &["13 for no such module", &at]);
+    }
+    for (call, name) in [
+        (&[0o355, 0, 1][..], "CX"),
+        (&[0o356, 1], "CI"),
+        (&[0o360, 1], "CL"),
+        (&[0o361], "CL1"),
+        (&[0o377], "CL1"),
+    ] {
+        let at = format!("13 for no such procedure at {name}");
+        let code = [call, &[0o354]].concat();
+        check(&code, &["13 for no such procedure", &at]);
+    }
+    for (opcode, name) in [
+        (0o030, "JPC"),
+        (0o031, "JP"),
+        (0o032, "JPFC"),
+        (0o033, "JPF"),
+        (0o034, "JPBC"),
+        (0o035, "JPB"),
+        (0o036, "ORJP"),
+        (0o037, "ANDJP"),
+    ] {
+        let at = format!("13 for a target outside at {name}");
+        let code = [opcode, 100, 0o336, 0o354];
+        check(&code, &["13 for jump to a target outside the code", &at]);
+    }
+}
+
+/// Where the position is found that 13 names.
+#[test]
+fn places_of_13_are_told_apart() {
+    const UNLISTED: &str = "13 for unlisted opcode";
+    const QUEUE: &str = "13 below the first fault that a queue finds";
+    const STACK: &str = "13 below the first fault that a stack finds";
+    const OTHER: &str = "13 in a module other than 0";
+    let check = |modules: &[Source], places: &[&str]| {
+        expect_of_whole(modules, &[&[UNLISTED], places].concat());
+    };
+    let plain = Source::plain;
+    let (good, unfit, fault) = (plain(&[0o354]), plain(&[0o304]), plain(&[0o021]));
+    check(std::slice::from_ref(&fault), &[]);
+    check(&[fault.clone(), good.clone()], &[]);
+    check(&[fault.clone(), unfit.clone()], &[]);
+    check(&[good.clone(), fault.clone()], &[OTHER]);
+    let before = "13 before a module at fault at a lower position";
+    let at_1 = plain(&[0o336, 0o021]);
+    check(&[at_1.clone(), good.clone(), fault.clone()], &[before]);
+    check(&[fault.clone(), good, at_1.clone()], &[]);
+    check(&[at_1.clone(), at_1], &[]);
+    let after = "13 after a module without depths that fit";
+    check(&[unfit, fault], &[OTHER, after]);
+    let far = |length: usize| plain(&[vec![0o336; length], vec![0o021]].concat());
+    check(&[far(255)], &[]);
+    check(&[far(256)], &["13 at a position above 255"]);
+    // Entries in both orders: the lower fault at 0, the higher one at 1.
+    let entries = |first, second| module_of(&[(first, 0, 0), (second, 0, 0)], &[0o021, 0o021]);
+    check(&[entries(0, 1)], &[]);
+    check(&[entries(1, 0)], &[QUEUE, STACK]);
+    // LI1, JPFC to a fault at 7; else NOP and JPB to one at 0. A queue has the
+    // short way first, a stack goes on.
+    let code = [0o021, 0o001, 0o032, 4, 0o336, 0o035, 6, 0o021];
+    check(&[module_of(&[(1, 0, 0)], &code)], &[QUEUE]);
+    // Only behind another fault, and not below it: a fault of its own.
+    let from_1 = |code: &[u8]| module_of(&[(1, 0, 0)], &[&[0o021], code].concat());
+    let name = "13 only behind a load, store or address at fault";
+    check(&[from_1(&[0o042, 1, 0, 0o035, 5])], &[name]);
+    let call = "13 only behind a call at fault";
+    check(&[from_1(&[0o355, 1, 0, 0o035, 5])], &[call]);
+    check(&[from_1(&[0o355, 0, 1, 0o035, 5])], &[call]);
+    check(&[from_1(&[0o361, 0o035, 3])], &[call]);
+    let target = "13 only behind a jump to a target outside";
+    check(&[from_1(&[0o032, 99, 0o035, 4])], &[target]);
+    let next = "13 only behind a jump without a next position";
+    check(&[from_1(&[0o001, 0o034, 3])], &[next]);
+    // Behind two of them there are two reasons.
+    let code = [0o042, 1, 0, 0o361, 0o035, 6];
+    check(&[from_1(&code)], &[name, call]);
+    // Not only: entry 4 is the jump back.
+    let both = module_of(&[(1, 0, 0), (4, 0, 0)], &[0o021, 0o042, 1, 0, 0o035, 5]);
+    check(&[both], &[QUEUE, STACK]);
+    // Where no depths lead.
+    let depth = "13 only without regard to depth";
+    check(&[plain(&[0o270, 0o021])], &[depth]);
+    check(&[plain(&[0o001, 0o021])], &[]);
+    check(&[plain(&[0o001, 0o001, 0o270, 0o021])], &[]);
+}
+
+/// 7 comes before 13.
+#[test]
+fn a_short_map_is_told_apart() {
+    let reached_with = |code: u8, map_length: usize| {
+        let mut case = case_of_modules(&[Source::plain(&[code])], &[]);
+        assert_eq!(case.image.len(), 5);
+        case.map_length = map_length;
+        let seven = "no images refused with 7 though the code is not whole".to_string();
+        reached(case).contains(&seven)
+    };
+    assert!(reached_with(0o021, 4));
+    assert!(!reached_with(0o021, 5));
+    assert!(!reached_with(0o354, 4));
+}
+
+/// The generator's kinds of code that is not whole: without one of these,
+/// something is missing.
+#[test]
+fn kinds_of_code_that_is_not_whole_are_needed() {
+    let missing = |left_out: &dyn Fn(u64) -> bool| {
+        // One case of 32 is of such code, one kind of ten after another.
+        let is_in = |&index: &u64| index % 32 != 6 || !left_out(index / 32 % 10);
+        let cases = (0..3008).filter(is_in);
+        Coverage::of(cases.map(|index| gen::case(&SMALL, SEED, index))).faults()
+    };
+    let kinds = [
+        (1, "7 though the code is not whole"),
+        (5, "13 only behind a load, store or address at fault"),
+        (6, "13 only behind a call at fault"),
+        (7, "13 only behind a jump to a target outside"),
+        (8, "13 only behind a jump without a next position"),
+    ];
+    for (kind, reached) in kinds {
+        let expected = [format!("no images refused with {reached}")];
+        assert_eq!(missing(&|other| other == kind), expected);
+    }
+    let all = missing(&|_| true);
+    for (_, reached) in kinds {
+        assert!(all.contains(&format!("no images refused with {reached}")));
+    }
+}
+
 /// A pair that fails in one way does not cover the other: SSD0 at the last word
 /// of the store, then at the word behind it.
 #[test]
@@ -211,19 +395,19 @@ fn addresses_of_pairs_are_told_apart() {
     assert_eq!(missing(198), [never("stopped with 32"), first, second]);
 }
 
-/// Images that load refuses with 8 for one reason: a LID cut off after each of
+/// Images that load refuses with 13 for one reason: a LID cut off after each of
 /// its bytes, or a module that 043 or 063 names and that is missing. Without
 /// that reason it accepts them.
 #[test]
-fn unfit_double_words_are_generated() {
-    let number = |image: &[u8]| load(image, &mut vec![0; image.len()]);
+fn double_words_at_fault_are_generated() {
+    let number = |image: &[u8]| load(image, &mut vec![0; image.len()]).number;
     let (mut cut, mut missing) = ([0; 4], [0; 2]);
     for case in gen::cases(&SMALL, SEED, 3008) {
         let image = case.image;
         let Ok(program) = parse(&image) else {
             continue;
         };
-        if number(&image) != 8 {
+        if number(&image) != 13 {
             continue;
         }
         for range in program.modules.iter().map(Module::code_range) {
@@ -300,8 +484,8 @@ fn carries_and_borrows_are_generated() {
 
 #[test]
 fn files_of_cases_are_read_back() {
-    // Two rounds of large cases.
-    let cases: Vec<Case> = gen::cases(&FULL, 3, 32 * 4 * 9).collect();
+    // Each kind of large cases.
+    let cases: Vec<Case> = gen::cases(&FULL, 3, 32 * 4 * 10).collect();
     let file = encode(&cases);
     assert_eq!(file.len() % 2, 0);
     assert_eq!(decode(&file).as_ref(), Ok(&cases));
@@ -400,13 +584,26 @@ fn an_outcome_is_printed_in_lines() {
     let text = replay(&case, &mut ()).to_string();
     let lines: Vec<&str> = text.lines().collect();
     assert_eq!(lines.len(), 3);
-    assert!(lines[0].starts_with("load 0 map ffffffff00010200 start 0 store "));
+    assert!(lines[0].starts_with("load 0 place 0 0 map ffffffff00010200 start 0 store "));
     assert!(lines[0].ends_with(" machine 0 0 0 131 139 143 143 0 stack"));
     let outputs = "outputs 3 3 7 3 3 3 3 3 3 3 3 3 3 3 3 3 store ";
     let stopped = format!("run 31 code 0 count 3 machine 0 3 0 131 139 143 143 0 stack {outputs}");
     assert!(lines[1].starts_with(&stopped), "{}", lines[1]);
     let refused = format!("run 10 code 0 count 0 machine 0 3 0 131 139 143 143 0 stack {outputs}");
     assert!(lines[2].starts_with(&refused), "{}", lines[2]);
+}
+
+/// For 13 with the place that load names.
+#[test]
+fn an_outcome_has_the_place() {
+    // Module 0 returns; module 1 has a NOP and an unlisted opcode.
+    let case = Case {
+        image: vec![2, 0, 0, 1, 0o354, 0, 0, 2, 0o336, 0o021],
+        map_length: 11,
+        ..Case::default()
+    };
+    let text = replay(&case, &mut ()).to_string();
+    assert!(text.starts_with("load 13 place 1 1 map ffffffffffffffffffff00 start 9 "));
 }
 
 /// The stack is printed up to its last word that is not 0.
@@ -505,7 +702,7 @@ fn lent_result_counts_are_generated() {
     let (beyond, other) = (Cell::new(0), Cell::new(0));
     for_each_run(gen::cases(&SMALL, SEED, 3008), |case, map, _, _| {
         let mut loaded = vec![0; case.image.len()];
-        if map.len() < loaded.len() || load(&case.image, &mut loaded) != 0 {
+        if map.len() < loaded.len() || load(&case.image, &mut loaded).number != 0 {
             return;
         }
         let program = parse(&case.image).unwrap();
@@ -622,15 +819,15 @@ fn a_refused_run_leaves_everything() {
     });
 }
 
-/// Refusals leave the map, but for 8, and start leaves the store.
+/// Refusals leave the map, but for 8 and 13, and start leaves the store.
 #[test]
 fn refused_loads_and_starts_leave_their_buffers() {
     for case in gen::cases(&FULL, 15, 1000) {
         let length = case.image.len();
         let mut map = vec![case.map_fill; case.map_length];
-        match load(&case.image, &mut map) {
+        match load(&case.image, &mut map).number {
             0 => {}
-            8 => assert_eq!(map[..length], vec![0xFF; length]),
+            8 | 13 => assert_eq!(map[..length], vec![0xFF; length]),
             _ => assert_eq!(map, vec![case.map_fill; case.map_length]),
         }
         if case.map_length > length {

@@ -11,9 +11,11 @@ fn plain_image(code: &[u8]) -> Vec<u8> {
     image
 }
 
-fn load_number(code: &[u8]) -> u8 {
+/// Load's number, module and position.
+fn load_answer(code: &[u8]) -> (u8, u8, u16) {
     let image = plain_image(code);
-    load(&image, &mut vec![0; image.len()])
+    let answer = load(&image, &mut vec![0; image.len()]);
+    (answer.number, answer.module, answer.position)
 }
 
 /// Runs a code until it stops; answers the stop and the words on the stack.
@@ -26,7 +28,7 @@ fn stop_and_stack(code: &[u8]) -> (u8, Vec<u16>) {
 #[test]
 fn the_example_has_its_map() {
     let mut map = [0x55; 10];
-    assert_eq!(load(&EXAMPLE, &mut map), 0);
+    assert_eq!(load(&EXAMPLE, &mut map).number, 0);
     assert_eq!(
         map,
         [0xFF, 0xFF, 0xFF, 0xFF, 0x00, 0x01, 0x02, 0x00, 0x55, 0x55]
@@ -62,7 +64,7 @@ const DOUBLE: [u8; 31] = [
 #[test]
 fn double_words_have_their_map() {
     let mut map = [0x55; 32];
-    assert_eq!(load(&DOUBLE, &mut map), 0);
+    assert_eq!(load(&DOUBLE, &mut map).number, 0);
     let unmarked = 0xFF;
     let mut expected = vec![unmarked; 31];
     for (position, depth) in [
@@ -94,16 +96,17 @@ fn double_words_read_as_worked_out() {
     );
 }
 
+/// A.3: "The marked case 02 now reads 13, module 0, position 0."
 #[test]
-fn code_02_is_8() {
-    assert_eq!(load_number(&[0x02]), 8);
+fn code_02_is_13() {
+    assert_eq!(load_answer(&[0x02]), (13, 0, 0));
 }
 
 #[test]
 fn seventeen_zeros_and_trap_are_8_sixteen_are_accepted() {
     let code = |zeros: usize| [vec![0x00; zeros], vec![0xC4]].concat();
-    assert_eq!(load_number(&code(17)), 8);
-    assert_eq!(load_number(&code(16)), 0);
+    assert_eq!(load_answer(&code(17)), (8, 0, 0));
+    assert_eq!(load_answer(&code(16)), (0, 0, 0));
 }
 
 #[test]
@@ -115,7 +118,7 @@ fn a_jump_to_itself_spends_its_budget() {
 
 #[test]
 fn a_growing_loop_is_8() {
-    assert_eq!(load_number(&[0x00, 0x1D, 0x02]), 8);
+    assert_eq!(load_answer(&[0x00, 0x1D, 0x02]), (8, 0, 0));
 }
 
 #[test]
@@ -158,12 +161,16 @@ fn desk_refusals_are_one_line() {
     assert_eq!(desk(&[]), "refused 1\n");
     assert_eq!(desk(&[0; 65_536]), "refused 1\n");
     assert_eq!(desk(&[0]), "refused 2\n");
-    assert_eq!(desk(&plain_image(&[0x02])), "refused 8\n");
+    // A.3: "The desk program still prints the number alone."
+    assert_eq!(desk(&plain_image(&[0x02])), "refused 13\n");
+    assert_eq!(desk(&plain_image(&[0xDE, 0xDE, 0x11])), "refused 13\n");
+    assert_eq!(desk(&plain_image(&[0xC4])), "refused 8\n");
     // Data size 4,000: Z = 4,131, and W = 4,096 is below Z + 36. Only load
-    // comes before start, so 8 comes before 9.
+    // comes before start, so 13 and 8 come before 9.
     let large = |code: u8| [0x01, 0x01, 0x0F, 0xA0, 0x00, 0x01, code];
     assert_eq!(desk(&large(0xEC)), "refused 9\n");
-    assert_eq!(desk(&large(0x02)), "refused 8\n");
+    assert_eq!(desk(&large(0x02)), "refused 13\n");
+    assert_eq!(desk(&large(0xC4)), "refused 8\n");
     // The largest data size that the desk's store holds: Z + 36 = 4,096.
     assert_eq!(
         desk(&[0x01, 0x01, 0x0F, 0x59, 0x00, 0x01, 0xEC]),

@@ -1,4 +1,5 @@
-//! Refusals 1 to 12: each, their order, and what they leave alone.
+//! Refusals 1 to 12: each, their order, and what they leave alone. Those of
+//! code that is not whole are in `whole.rs`.
 
 use crate::rig::{Rig, WORDS};
 use second::assemble::{encode, Source};
@@ -129,26 +130,27 @@ fn all_fields_are_read() {
 
 #[test]
 fn load_refuses_in_order_and_leaves_the_map() {
-    let unfit = [0x01, 0x00, 0x00, 0x01, 0x02];
+    // A TRAP without its word.
+    let unfit = [0x01, 0x00, 0x00, 0x01, 0xC4];
     let mut map = [0x55; 7];
     // 4 before 7 before 8.
-    let after = [0x01, 0x00, 0x00, 0x01, 0x02, 0x00];
-    assert_eq!(load(&after, &mut map[..1]), 4);
-    assert_eq!(load(&unfit, &mut map[..4]), 7);
+    let after = [0x01, 0x00, 0x00, 0x01, 0xC4, 0x00];
+    assert_eq!(load(&after, &mut map[..1]).number, 4);
+    assert_eq!(load(&unfit, &mut map[..4]).number, 7);
     assert_eq!(map, [0x55; 7]);
     // 8 sets FF over the image's length.
-    assert_eq!(load(&unfit, &mut map), 8);
+    assert_eq!(load(&unfit, &mut map).number, 8);
     assert_eq!(map, [0xFF, 0xFF, 0xFF, 0xFF, 0xFF, 0x55, 0x55]);
     // Also where module 0 fits and only module 1 does not.
     let mut map = [0x55; 10];
-    let second = [0x02, 0x00, 0x00, 0x01, 0xEC, 0x00, 0x00, 0x01, 0x02];
-    assert_eq!(load(&second, &mut map), 8);
+    let second = [0x02, 0x00, 0x00, 0x01, 0xEC, 0x00, 0x00, 0x01, 0xC4];
+    assert_eq!(load(&second, &mut map).number, 8);
     assert_eq!(map[..9], [0xFF; 9]);
     assert_eq!(map[9], 0x55);
     // A bad header behind unfit code is found first.
     let mut map = [0x55; 7];
-    let header = [0x02, 0x00, 0x00, 0x01, 0x02, 0x08];
-    assert_eq!(load(&header, &mut map), 5);
+    let header = [0x02, 0x00, 0x00, 0x01, 0xC4, 0x08];
+    assert_eq!(load(&header, &mut map).number, 5);
     assert_eq!(map, [0x55; 7]);
 }
 
@@ -230,7 +232,7 @@ fn data_sizes_are_free_but_no_store_holds_them() {
     };
     let image = encode(&[module.clone(), module]);
     let mut map = vec![0; image.len()];
-    assert_eq!(load(&image, &mut map), 0);
+    assert_eq!(load(&image, &mut map).number, 0);
     for words in [4_096, 65_535] {
         let mut store = vec![7; words];
         assert_eq!(start(&image, &mut store), (9, Machine::default()));

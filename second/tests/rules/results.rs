@@ -43,7 +43,7 @@ fn byte(depth: u8, results: u8) -> u8 {
 fn marks(modules: &[Source]) -> Option<Vec<u8>> {
     let image = encode(modules);
     let mut map = vec![0x77; image.len() + 1];
-    let number = load(&image, &mut map);
+    let number = load(&image, &mut map).number;
     assert_eq!(map.pop(), Some(0x77));
     match number {
         0 => Some(map.split_off(image.len() - modules.last()?.code.len())),
@@ -135,7 +135,7 @@ fn one_word_too_many_is_8() {
     assert_eq!(desk(&program(2)), "refused 8\n");
     assert_eq!(desk(&program(0)), "refused 8\n");
     let image = program(2);
-    assert_eq!(load(&image, &mut vec![0; image.len() - 1]), 7);
+    assert_eq!(load(&image, &mut vec![0; image.len() - 1]).number, 7);
 }
 
 /// The main program may have results too, and ends with them.

@@ -21,7 +21,7 @@ impl Rig {
     pub fn new(modules: &[Source], words: usize) -> Rig {
         let image = encode(modules);
         let mut map = vec![0xAA; image.len()];
-        assert_eq!(load(&image, &mut map), 0, "load");
+        assert_eq!(load(&image, &mut map).number, 0, "load");
         let mut store = vec![0xAAAA; words];
         let (number, machine) = start(&image, &mut store);
         assert_eq!(number, 0, "start");

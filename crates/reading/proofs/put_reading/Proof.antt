@@ -28,8 +28,8 @@ enum-known-ending c = search needs
 refused-requires : tie.Need-refused-requires
 refused-requires c κs = search needs
 
-place-requires : tie.Need-place-requires
-place-requires c κs = search needs
+found-requires : tie.Need-found-requires
+found-requires c κs = search needs
 
 slice-aggregate-refusal : tie.Need-slice-aggregate-refusal
 slice-aggregate-refusal c = search needs
@@ -79,7 +79,7 @@ put-reading-spec =
     reading-requires
     enum-known-ending
     refused-requires
-    place-requires
+    found-requires
     slice-aggregate-refusal
     refusal-requires
     enum-known-ending-2

@@ -3,7 +3,7 @@ use mathlib.Core.Bool.{Bool, false}
 use lib.Dec.{eqb}
 use Rattle.mcode.specs.Word.{and}
 use borrow.Author.Tests.{not-true, not-false}
-use Rattle.engine.proofs.Begin.{read-told}
+use Rattle.loader.proofs.Begin.{read-told}
 use Rattle.engine.proofs.Judged.{refused-1, refused-7, refused-12, refused-9, refused-10, refused-11, passed-so, prepared-so, narrow-so, one-short}
 use Rattle.execute.proofs.Fits.{mapped}
 use native.Mathlib.Omega.{arith}
@@ -16,7 +16,7 @@ use Rattle.engine.proofs.judge.judge.Lts as lts
 use Rattle.depths.proofs.fits.map_fits.Reads as map-fits-reads
 use Rattle.engine.proofs.judge.is_machine.Reads as is-machine-reads
 use Rattle.engine.proofs.judge.refused.Reads as refused-reads
-use Rattle.engine.proofs.start.store_fits.Reads as store-fits-reads
+use Rattle.loader.proofs.start.store_fits.Reads as store-fits-reads
 use Rattle.engine.proofs.table.table_of.Reads as table-of-reads
 use Rattle.image.proofs.read_image.Reads as read-image-reads
 

@@ -5,7 +5,7 @@ use Rattle.engine.proofs.run.refused_with.Statement.{statement}
 use Rattle.engine.proofs.run.refused_with.Tie as tie
 use Rattle.engine.proofs.run.refused_with.Reads as reads
 use Rattle.engine.proofs.run.refused_with.Lts as lts
-use Rattle.engine.proofs.start.zero_machine.Reads as zero-machine-reads
+use Rattle.loader.proofs.start.zero_machine.Reads as zero-machine-reads
 
 zero-machine-requires : tie.Need-zero-machine-requires
 zero-machine-requires c κs = search needs

@@ -7,10 +7,10 @@ use Rattle.engine.proofs.session.two_runs.Statement.{statement}
 use Rattle.engine.proofs.session.two_runs.Tie as tie
 use Rattle.engine.proofs.session.two_runs.Reads as reads
 use Rattle.engine.proofs.session.two_runs.Lts as lts
-use Rattle.engine.proofs.load.load.Reads as load-reads
+use Rattle.loader.proofs.load.load.Reads as load-reads
 use Rattle.engine.proofs.run.run.Reads as run-reads
 use Rattle.engine.proofs.session.no_session.Reads as no-session-reads
-use Rattle.engine.proofs.start.start.Reads as start-reads
+use Rattle.loader.proofs.start.start.Reads as start-reads
 
 load-requires : tie.Need-load-requires
 load-requires c κs = search needs

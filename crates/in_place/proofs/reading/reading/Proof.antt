@@ -7,10 +7,10 @@ use Rattle.in_place.proofs.reading.reading.Statement.{statement}
 use Rattle.in_place.proofs.reading.reading.Tie as tie
 use Rattle.in_place.proofs.reading.reading.Reads as reads
 use Rattle.in_place.proofs.reading.reading.Lts as lts
-use Rattle.engine.proofs.load.load.Reads as load-reads
+use Rattle.loader.proofs.load.load.Reads as load-reads
 use Rattle.engine.proofs.run.refused_with.Reads as refused-with-reads
 use Rattle.in_place.proofs.run.run.Reads as run-reads
-use Rattle.engine.proofs.start.start.Reads as start-reads
+use Rattle.loader.proofs.start.start.Reads as start-reads
 
 load-requires : tie.Need-load-requires
 load-requires c κs = search needs

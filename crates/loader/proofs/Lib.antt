@@ -1,0 +1,5 @@
+pub mod Answers
+pub mod Bases
+pub mod Begin
+pub mod Fill
+pub mod Walked

@@ -24,6 +24,12 @@ pub const LONG: usize = 29_600;
 const BASE: u16 = 128;
 /// The words of a module before its data.
 pub const MODULE_WORDS: usize = 3;
+/// Words of data of a module that `with_data` makes.
+const DATA: u16 = 8;
+/// S of the process that start makes, where such a module is the only one.
+const FIRST_STACK: u16 = BASE + MODULE_WORDS as u16 + DATA + 12;
+/// A place far from it.
+const OTHER_STACK: u16 = 2100;
 
 fn procedure(entry: usize, parameters: u8, results: u8) -> Procedure {
     Procedure {
@@ -90,10 +96,10 @@ fn repeated(body: &[u8]) -> Vec<u8> {
     code.0
 }
 
-/// A module of code with 8 words of data.
+/// A module of code, with data.
 fn with_data(code: Vec<u8>) -> Source {
     Source {
-        data_size: 8,
+        data_size: DATA,
         code,
         ..Source::default()
     }
@@ -191,10 +197,10 @@ fn signed_arithmetic() -> Loop {
 }
 
 /// Two processes that transfer to each other, with `words` on the stack, two of them the addresses. Word G+3 holds the one that
-/// waits. The second one's record and stack are written into the store.
-fn transfers(name: &'static str, words: u16) -> Loop {
+/// waits. The second one's record is written into the store, and its words from `stack` up: on the first one's stack, each transfer saves
+/// over what it restores.
+fn transfers(name: &'static str, words: u16, stack: u16) -> Loop {
     const RECORD: u16 = 2000;
-    const STACK: u16 = 2100;
     let waiting = words - 2;
     let mut code = vec![1; usize::from(waiting)];
     let top = code.len();
@@ -202,10 +208,10 @@ fn transfers(name: &'static str, words: u16) -> Loop {
     let mut code = Code(code);
     code.back(0o035, top);
     let mut patches = vec![(BASE + 3, RECORD)];
-    let end = STACK + waiting;
-    patches.extend((STACK..end).map(|address| (address, address)));
+    let end = stack + waiting;
+    patches.extend((stack..end).map(|address| (address, address)));
     patches.push((end, waiting));
-    let record = [BASE, STACK, top as u16 + 6, 0, end + 1, 3000];
+    let record = [BASE, stack, top as u16 + 6, 0, end + 1, 3000];
     patches.extend((RECORD..).zip(record));
     Loop {
         name,
@@ -268,8 +274,10 @@ pub fn loops() -> Vec<Loop> {
         external_calls(),
         bytes(),
         signed_arithmetic(),
-        transfers("transfers, 2 words", 2),
-        transfers("transfers, 16 words", 16),
+        transfers("transfers, 2 words", 2, OTHER_STACK),
+        transfers("transfers, 16 words", 16, OTHER_STACK),
+        transfers("transfers, 2, colliding", 2, FIRST_STACK),
+        transfers("transfers, 16, colliding", 16, FIRST_STACK),
         input_and_output(),
         sieve(),
     ]

@@ -102,9 +102,11 @@ pub struct Outcome {
     pub runs: Vec<RunOutcome>,
 }
 
-/// An answer, and the outputs and the store after it.
+/// The machine handed to a run, its answer, and the outputs and the store after
+/// it.
 #[derive(Clone, Debug, PartialEq, Eq)]
 pub struct RunOutcome {
+    pub handed: Machine,
     pub answer: RunAnswer,
     pub outputs: Vec<u16>,
     pub store: Checksum,
@@ -145,6 +147,7 @@ pub fn replay<O: Observer>(case: &Case, observer: &mut O) -> Outcome {
         let answer = api::run_observed(handed, buffers, run.budget, observer);
         machine = answer.machine;
         outcome.runs.push(RunOutcome {
+            handed,
             answer,
             outputs: outputs.clone(),
             store: Checksum::of(store.iter().copied()),

@@ -1,5 +1,6 @@
 //! What generated cases reach: opcodes, traps of opcodes, refusals, what A.2
-//! makes of result counts, and what A.3 makes of code that is not whole.
+//! makes of result counts, what A.3 makes of code that is not whole, and what
+//! collides in transfers.
 
 use crate::case::{replay, Case};
 use crate::exec::Observer;
@@ -9,6 +10,7 @@ use crate::number::*;
 use crate::opcode::{self, row, PAIRS};
 use crate::pair::first_address;
 use crate::results::Results;
+use crate::transfers::Transfers;
 use crate::whole::Whole;
 use std::fmt::Write;
 
@@ -26,6 +28,7 @@ pub struct Coverage {
     run: [u64; ANSWERS],
     results: Results,
     whole: Whole,
+    transfers: Transfers,
     cases: u64,
 }
 
@@ -105,6 +108,7 @@ impl Coverage {
             run: [0; ANSWERS],
             results: Results::default(),
             whole: Whole::default(),
+            transfers: Transfers::default(),
             cases: 0,
         };
         cases.for_each(|case| coverage.add(&case));
@@ -118,6 +122,7 @@ impl Coverage {
         self.start[usize::from(outcome.start)] += 1;
         self.results.add(case, &outcome);
         self.whole.add(case, &outcome);
+        self.transfers.add(case, &outcome);
         for run in outcome.runs {
             let answer = run.answer;
             match answer.number {
@@ -131,9 +136,7 @@ impl Coverage {
     /// A stop of the instruction at which the machine stands.
     fn add_stop(&mut self, case: &Case, stop: u8, machine: &Machine) {
         let program = parse(&case.image).expect("it was run");
-        let module = &program.modules[usize::from(machine.module)];
-        let position = module.code_start + usize::from(machine.pc);
-        let opcode = usize::from(case.image[position]);
+        let opcode = usize::from(machine.opcode(&program, &case.image));
         self.stops[opcode][usize::from(stop - ENDED)] += 1;
         if stop == ADDRESS {
             if let Some(first) = first_address(&program, &case.image, machine) {
@@ -188,9 +191,12 @@ impl Coverage {
         faults
     }
 
-    /// What was reached of A.2 and A.3.
+    /// What was reached of A.2, of A.3 and of transfers.
     fn kinds(&self) -> impl Iterator<Item = Line> {
-        self.results.lines().into_iter().chain(self.whole.lines())
+        let mut lines = self.results.lines();
+        lines.extend(self.whole.lines());
+        lines.extend(self.transfers.lines());
+        lines.into_iter()
     }
 
     fn missing_kinds(&self) -> Vec<String> {

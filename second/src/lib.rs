@@ -20,6 +20,7 @@ pub mod number;
 pub mod opcode;
 pub mod pair;
 pub mod results;
+pub mod transfers;
 pub mod walk;
 pub mod whole;
 

@@ -43,6 +43,12 @@ impl Machine {
     /// Added to the return mark of an external call.
     pub const FAR: u16 = 0x8000;
 
+    /// The opcode at which it stands. Its position lies in the code.
+    pub fn opcode(&self, program: &Program, image: &[u8]) -> u8 {
+        let module = &program.modules[usize::from(self.module)];
+        image[module.code_start + usize::from(self.pc)]
+    }
+
     /// "A machine has a loaded module, a position marked with its depth,
     /// S ≤ H, H + 24 ≤ W, P + 8 ≤ W, and zeros above its depth." The map is
     /// one that fits, the store one that is accepted.

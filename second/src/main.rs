@@ -21,7 +21,8 @@ usage: second reading [FILE]
            depth + 17 * results, or FF where unmarked
        second coverage [--small] [--seed N] [--cases N]
            replay generated cases and print what they reach; exit 1 if an
-           opcode, a stop, a refusal or a kind of A.2 or A.3 is missing
+           opcode, a stop, a refusal, a collision of a transfer or a kind of
+           A.2 or A.3 is missing
        second coverage CASES
            the same for the cases of a file
        second cases [--small] [--seed N] [--count N] OUT

@@ -44,7 +44,6 @@ impl Results {
         };
         self.add_load(&program, &case.image, outcome);
         let mut map = outcome.map.clone();
-        let mut machine = outcome.machine;
         for (run, outcome_of_run) in case.runs.iter().zip(&outcome.runs) {
             for &(offset, byte) in &run.map_patches {
                 map[usize::from(offset)] = byte;
@@ -54,14 +53,13 @@ impl Results {
                 let only = only_no_marks(&program, &case.image, &map, &outcome.map);
                 self.no_marks[0] += u64::from(only);
             }
-            let from = run.machine.unwrap_or(machine);
-            machine = answer.machine;
-            if answer.count == 1 && opcode_at(&program, &case.image, &from) == RTN {
+            let from = &outcome_of_run.handed;
+            if answer.count == 1 && from.opcode(&program, &case.image) == RTN {
                 let results = |machine: &Machine| {
                     let mark = program.mark(&map, usize::from(machine.module), machine.pc);
                     mark.map(|mark| mark.results)
                 };
-                self.landings[usize::from(results(&from) != results(&machine))] += 1;
+                self.landings[usize::from(results(from) != results(&answer.machine))] += 1;
             }
         }
     }
@@ -102,12 +100,6 @@ impl Results {
             ("landings of 354 on", named(&LANDING, &self.landings)),
         ]
     }
-}
-
-/// The opcode at which a machine stands.
-fn opcode_at(program: &Program, image: &[u8], machine: &Machine) -> u8 {
-    let module = &program.modules[usize::from(machine.module)];
-    image[module.code_start + usize::from(machine.pc)]
 }
 
 /// Whether a map that does not fit has bytes 85 to 254 in the code, and would

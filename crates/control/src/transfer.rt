@@ -179,7 +179,8 @@ fn save_process(r: Core, stack: &[u16; 16], store: &mut [u16], d: usize, c: usiz
     store[c] = r.p.0;
 }
 
-// The same, and the n words from the word at a up, as they were before, in the place of the stack.
+// The same, and the n words from the word at a up, as they were before, in the place of the stack. They wait in an array, also where the
+// save does not touch them: to find that out takes as long as the array does (docs/PERFORMANCE.md, Transfers).
 fn exchange(
     r: Core,
     stack: &mut [u16; 16],

@@ -259,6 +259,21 @@ fn share(rng: &mut Rng, module: &mut Source, place: Place) {
     add_procedure(module, procedure);
 }
 
+/// One more procedure: transfers with 2 words on the stack and with 16.
+fn add_transfers(rng: &mut Rng, module: &mut Source) {
+    let entry = module.code.len() as u16;
+    for depth in [2, MOST] {
+        module.code.extend(literals(rng, depth.into()));
+        module.code.extend([TRA, rng.below(3) as u8]);
+    }
+    module.code.push(TRAP);
+    let procedure = Procedure {
+        entry,
+        ..ONLY_PROCEDURE
+    };
+    add_procedure(module, procedure);
+}
+
 /// One more procedure.
 fn add_procedure(module: &mut Source, procedure: Procedure) {
     if module.procedures.is_empty() {
@@ -294,7 +309,11 @@ fn fault_case(rng: &mut Rng, scale: &Scale, round: u64) -> Case {
 /// Single steps, or a few, from machines at any marked position.
 fn state_case(rng: &mut Rng, scale: &Scale, opcode: Option<u8>) -> Case {
     let shape = opcode_shape(rng, scale, scale.state_opcodes, opcode);
-    let mut world = World::new(rng, &shape);
+    let mut modules = program(rng, &shape);
+    if opcode == Some(TRA) {
+        add_transfers(rng, &mut modules[0]);
+    }
+    let mut world = World::of(rng, &shape, &modules);
     if let Some(opcode) = opcode {
         world.end_at_pair(rng, opcode);
     }

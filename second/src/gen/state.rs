@@ -6,11 +6,13 @@ use super::rng::Rng;
 use crate::api;
 use crate::assemble::{encode, Source};
 use crate::case::CaseRun;
-use crate::depths::Mark;
+use crate::depths::{Mark, MOST};
 use crate::image::{parse, Program};
 use crate::machine::Machine;
 use crate::opcode::{self, *};
 use crate::pair::first_address;
+use crate::transfers::{record, saved_stack};
+use std::ops::Range;
 
 /// An accepted program and the length of its store.
 pub struct World {
@@ -364,64 +366,75 @@ impl World {
             .extend([(l, base), (l + 1, link), (l + 2, position)]);
     }
 
-    /// Processes to transfer to, good and bad, and addresses that collide.
+    /// Processes to transfer to, good and bad, and words that collide.
     fn set_transfer(&self, rng: &mut Rng, machine: &mut Machine, run: &mut CaseRun) {
-        let near = |rng: &mut Rng, word: u16, distance: usize| {
-            let sum = usize::from(word) + rng.below(distance);
-            sum.min(self.words - 1) as u16
-        };
         let last_record = self.words - Machine::RECORD;
+        let saved = saved_stack(machine);
+        if rng.once_in(6) {
+            machine.p = near(rng, &saved, 6).min(last_record) as u16;
+        }
+        let own = record(machine.p);
         let q = match rng.below(8) {
-            0 => machine.p,
-            1 => near(rng, machine.p, 8).min(last_record as u16),
-            2 => near(rng, machine.s, 6).min(last_record as u16),
-            3 => last_record as u16,
-            _ => rng.below(last_record) as u16,
-        };
-        let to = self.address(rng);
-        let mut patches = self.process(rng, q);
+            0 => machine.p.into(),
+            1 => near(rng, &own, 6),
+            2 => near(rng, &saved, 6),
+            3 => last_record,
+            _ => rng.below(last_record),
+        }
+        .min(last_record) as u16;
+        let mut patches = self.process(rng, q, &[&own, &saved]);
+        let stack = usize::from(patches[6].0)..usize::from(patches[4].1);
         if rng.once_in(3) {
             self.spoil_process(rng, q, &mut patches);
         }
-        let s = patches[4].1;
+        let to = self.address(rng);
         let from = match rng.below(8) {
-            0 => near(rng, machine.p, 8),
-            1 => near(rng, machine.s, 16),
-            2 => near(rng, q, 8),
-            3 => to,
-            4 => s.wrapping_sub(1),
+            0 => near(rng, &own, 1) as u16,
+            1 => near(rng, &saved, 1) as u16,
+            2 => near(rng, &record(q), 1) as u16,
+            3 => near(rng, &stack, 1) as u16,
+            4 => to,
             _ => self.address(rng),
         };
         let depth = usize::from(machine.depth);
         machine.stack[depth - 1] = to;
         machine.stack[depth - 2] = from;
         // The name of the process mostly comes last, so that it stays.
-        let name = (
-            to,
-            if rng.once_in(16) {
-                self.address(rng)
-            } else {
-                q
-            },
-        );
-        if rng.once_in(6) {
-            patches.insert(0, name);
+        let named = if rng.once_in(16) {
+            self.address(rng)
         } else {
-            patches.push(name);
-        }
+            q
+        };
+        let index = if rng.once_in(6) { 0 } else { patches.len() };
+        patches.insert(index, (to, named));
         let inside = |&(address, _): &(u16, u16)| usize::from(address) < self.words;
         run.store_patches
             .extend(patches.iter().filter(|p| inside(p)));
     }
 
-    /// The store words of a good process: its record of six words first.
-    fn process(&self, rng: &mut Rng, q: u16) -> Vec<(u16, u16)> {
-        let place = self.any_place(rng);
+    /// A place to go on at, often one without words or with the most.
+    fn place_to_resume(&self, rng: &mut Rng) -> Place {
+        let depth = rng.pick(&[Some(0), Some(MOST), None, None]);
+        depth
+            .and_then(|depth| self.place_where(rng, |place| place.mark.depth == depth))
+            .unwrap_or_else(|| self.any_place(rng))
+    }
+
+    /// The store words of a good process: its record of six words, then its
+    /// stack, which often lies over one of the ranges given.
+    fn process(&self, rng: &mut Rng, q: u16, over: &[&Range<usize>]) -> Vec<(u16, u16)> {
+        let place = self.place_to_resume(rng);
         let highest = self.words - usize::from(Machine::MARGIN);
-        let lowest = rng.within(0, highest);
+        let depth = usize::from(place.mark.depth);
+        let lowest = match over {
+            [_, ..] if rng.once_in(3) => {
+                let range = rng.pick(over);
+                near(rng, range, depth + 1).min(highest)
+            }
+            _ => rng.within(0, highest),
+        };
         let between = rng.within(lowest, highest);
         let h = rng.pick(&[lowest, highest, between]);
-        let depth = usize::from(place.mark.depth);
         let s = lowest + depth + 1;
         let v = h + usize::from(Machine::MARGIN);
         let record = [
@@ -481,7 +494,7 @@ impl World {
                 0 => self.program.z as u16,
                 1 => some_word(rng),
                 _ => {
-                    patches.extend(self.process(rng, record));
+                    patches.extend(self.process(rng, record, &[]));
                     record
                 }
             };
@@ -489,6 +502,11 @@ impl World {
         }
         patches
     }
+}
+
+/// The first of so many words that lie over a range, or just beside it.
+fn near(rng: &mut Rng, range: &Range<usize>, length: usize) -> usize {
+    rng.within(range.start.saturating_sub(length), range.end)
 }
 
 fn places(program: &Program, image: &[u8], map: &[u8]) -> Vec<Place> {

@@ -59,6 +59,9 @@ fn everything_is_covered() {
     assert_eq!(beginning("no images refused with 13 "), 24 + 11);
     assert_eq!(beginning("no images refused with 7 "), 1);
     assert_eq!(beginning("no images refused with 8 with whole code"), 1);
+    // Ten collisions of transfers, with three sizes of either stack.
+    assert_eq!(beginning("no transfers that restore "), 3 * 10);
+    assert_eq!(beginning("no transfers that save "), 3 * 10);
 }
 
 /// A module, and entry, parameters and results of its procedures.
@@ -199,6 +202,136 @@ fn landings_are_told_apart() {
     assert_eq!(reached(&[1], 3), [""; 0]);
     assert_eq!(reached(&[2], 3), [""; 0]);
     assert_eq!(reached(&[0, 1, 5], 3), [""; 0]);
+}
+
+/// The registers of a transfer, how many words it saves, and the process that it
+/// finds: where its record is, where its stack begins, and a position with its
+/// depth.
+struct Collision {
+    p: u16,
+    s: u16,
+    word_c: u16,
+    saves: u8,
+    record: u16,
+    stack: u16,
+    goes_on: (u16, u8),
+}
+
+/// No word is saved or restored, and nothing touches.
+const APART: Collision = Collision {
+    p: 131,
+    s: 150,
+    word_c: 41,
+    saves: 0,
+    record: 160,
+    stack: 170,
+    goes_on: (4, 0),
+};
+
+/// What it reaches of transfers, if it is the only step of a run.
+fn reached_of_transfers(it: &Collision) -> Vec<String> {
+    // Two literals, a TRA at position 2; sixteen, a TRA at 20; a TRAP.
+    let code = [&[1; 2][..], &[0o256, 0], &[1; 16], &[0o256, 0, 0o304]].concat();
+    let depth = it.saves + 2;
+    let mut machine = Machine {
+        pc: if it.saves == 0 { 2 } else { 20 },
+        depth,
+        p: it.p,
+        s: it.s,
+        h: 176,
+        ..Machine::default()
+    };
+    machine.stack[usize::from(it.saves)] = it.word_c;
+    machine.stack[usize::from(it.saves) + 1] = 40;
+    let (position, count) = it.goes_on;
+    let count_at = it.stack + u16::from(count);
+    let record = [128, 0, position, 0, count_at + 1, 200];
+    let mut store_patches: Vec<(u16, u16)> = (it.record..).zip(record).collect();
+    store_patches.extend([(count_at, count.into()), (40, it.record)]);
+    let run = CaseRun {
+        budget: 1,
+        machine: Some(machine),
+        store_patches,
+        ..CaseRun::default()
+    };
+    let mut reached = reached(case_of(&[(0, 0, 0)], &code, &[run]));
+    reached.retain(|fault| fault.starts_with("no transfers that "));
+    reached
+}
+
+/// The last word that collides, and the word beside it that does not.
+#[test]
+fn collisions_are_told_apart() {
+    let check = |it: Collision, collision: &str| {
+        let sizes = ["restore no word", "save no word"];
+        let expected = sizes.map(|size| format!("no transfers that {size}, with {collision}"));
+        assert_eq!(reached_of_transfers(&it), expected);
+    };
+    let nothing = "nothing touching";
+    check(APART, nothing);
+    let over_record = "the saved stack over the target's record";
+    check(Collision { s: 165, ..APART }, over_record);
+    check(Collision { s: 166, ..APART }, nothing);
+    let over_stack = "the saved stack over the target's stack";
+    check(Collision { s: 170, ..APART }, over_stack);
+    check(Collision { s: 171, ..APART }, nothing);
+    let over_own = "the saved stack over the own record";
+    check(Collision { s: 136, ..APART }, over_own);
+    check(Collision { s: 137, ..APART }, nothing);
+    let own_over_record = "the own record over the target's record";
+    check(Collision { p: 155, ..APART }, own_over_record);
+    check(Collision { p: 154, ..APART }, nothing);
+    let own_over_stack = "the own record over the target's stack";
+    check(
+        Collision {
+            stack: 136,
+            ..APART
+        },
+        own_over_stack,
+    );
+    check(
+        Collision {
+            stack: 137,
+            ..APART
+        },
+        nothing,
+    );
+    for (word_c, collision) in [
+        (165, "word c in the target's record"),
+        (166, nothing),
+        (170, "word c in the target's stack"),
+        (171, nothing),
+        (136, "word c in the own record"),
+        (137, nothing),
+        (150, "word c in the saved stack"),
+        (151, nothing),
+    ] {
+        check(Collision { word_c, ..APART }, collision);
+    }
+    // A transfer to itself, and one that fails.
+    for record in [131, 193] {
+        let it = Collision { record, ..APART };
+        assert_eq!(reached_of_transfers(&it), [""; 0]);
+    }
+}
+
+/// How many words are restored and saved.
+#[test]
+fn sizes_of_transfers_are_told_apart() {
+    let check = |saves: u8, goes_on: (u16, u8), sizes: [&str; 2]| {
+        let it = Collision {
+            saves,
+            goes_on,
+            s: 140,
+            ..APART
+        };
+        let expected = sizes.map(|size| format!("no transfers that {size}, with nothing touching"));
+        assert_eq!(reached_of_transfers(&it), expected);
+    };
+    check(0, (5, 1), ["restore 1 to 15 words", "save no word"]);
+    check(0, (19, 15), ["restore 1 to 15 words", "save no word"]);
+    check(14, (4, 0), ["restore no word", "save 14 words"]);
+    check(14, (20, 16), ["restore 16 words", "save 14 words"]);
 }
 
 /// What an image reaches of A.3: ends of lines of the report.

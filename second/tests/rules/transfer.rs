@@ -319,6 +319,14 @@ fn all_is_read_before_the_first_write() {
         rig.expect_step(restored(0x2222), &writes);
     }
 
+    // A word of the other stack, or its count, is where c points.
+    for place in 2000..=2003 {
+        let mut rig = at_transfer(1);
+        rig.machine.stack[2] = place;
+        let writes = [&SAVED[..], &[(place, Z)]].concat();
+        rig.expect_step(restored(0x2222), &writes);
+    }
+
     // The other stack and its count lie where the own stack is saved.
     let mut rig = at_transfer(1);
     rig.machine.s = 2001;
@@ -334,6 +342,132 @@ fn all_is_read_before_the_first_write() {
     writes.extend((1999..).zip(record));
     writes.push((FROM, 1999));
     rig.expect_step(restored(0x2222), &writes);
+}
+
+/// Transfers with `saved` words below the addresses, from registers S and P and
+/// with word c at `from`, to the record at Q of a process with `count` words from
+/// 2000 up: 100, 101 and so on. `writes` are the words that it leaves, from
+/// addresses up.
+fn expect_transfer(
+    saved: &[u16],
+    (s, p, from): (u16, u16, u16),
+    count: u16,
+    writes: &[(u16, &[u16])],
+) {
+    let mut rig = at_instruction(&[0o256, 1], &[saved, &[from, TO]].concat());
+    rig.machine.m = MASK;
+    rig.machine.s = s;
+    rig.machine.p = p;
+    // Procedure 1 of module 0 is marked 0, procedure 15 is marked 16.
+    let position = if count == 0 { entry(1) } else { entry(15) };
+    let record = [BASE_0, 0x1111, position, 0x2222, 2001 + count, 3000];
+    let words: Vec<u16> = (100..100 + count).collect();
+    poke_record(&mut rig, Q, record);
+    rig.poke(&[(TO, Q), (2000 + count, count)]);
+    rig.poke(&(2000..).zip(words.iter().copied()).collect::<Vec<_>>());
+    let resumed = |machine: &mut Machine| {
+        *machine = Machine {
+            pc: position,
+            p: Q,
+            l: 0x1111,
+            s: 2000,
+            h: 2976,
+            m: 0x2222,
+            ..*machine
+        };
+        set_stack(machine, &words.iter().rev().copied().collect::<Vec<_>>());
+    };
+    let from_up = |&(first, words): &(u16, &[u16])| (first..).zip(words.to_vec());
+    rig.expect_step(
+        resumed,
+        &writes.iter().flat_map(from_up).collect::<Vec<_>>(),
+    );
+}
+
+/// Fourteen words are saved and sixteen restored.
+#[test]
+fn a_full_stack_collides() {
+    let stack = [14, 13, 12, 11, 10, 9, 8, 7, 6, 5, 4, 3, 2, 1, 14];
+    let record = |s: u16| [BASE_0, L, 68, MASK, s + 15, 4096];
+    let check = |places: (u16, u16, u16), writes: &[(u16, &[u16])]| {
+        let words: Vec<u16> = (1..=14).collect();
+        expect_transfer(&words, places, 16, writes);
+    };
+    // Nothing touches; the stack is saved over the other record, over the lowest
+    // of the other words, over the highest and their count.
+    for s in [S, Q - 4, 1990, 2010] {
+        let writes: [(u16, &[u16]); 3] = [(s, &stack), (Z, &record(s)), (FROM, &[Z])];
+        check((s, Z, FROM), &writes);
+    }
+    // Over the own record, which stays.
+    let both = [
+        14,
+        13,
+        12,
+        BASE_0,
+        L,
+        68,
+        MASK,
+        Z + 12,
+        4096,
+        5,
+        4,
+        3,
+        2,
+        1,
+        14,
+    ];
+    check((Z - 3, Z, FROM), &[(Z - 3, &both), (FROM, &[Z])]);
+    // The own record over the other one, and over the other words and count.
+    for p in [Q - 2, Q + 2, 1998, 2013] {
+        let writes: [(u16, &[u16]); 3] = [(S, &stack), (p, &record(S)), (FROM, &[p])];
+        check((S, p, FROM), &writes);
+    }
+    // Word c in the other record, among the other words, their count.
+    for from in [Q + 2, 2007, 2016] {
+        let writes: [(u16, &[u16]); 3] = [(S, &stack), (Z, &record(S)), (from, &[Z])];
+        check((S, Z, from), &writes);
+    }
+    // In the own record, among the saved words, their count.
+    let with_c = [BASE_0, L, 68, MASK, Z, 4096];
+    check((S, Z, Z + 4), &[(S, &stack), (Z, &with_c)]);
+    let with_c = [14, 13, 12, 11, 10, 9, Z, 7, 6, 5, 4, 3, 2, 1, 14];
+    check((S, Z, S + 6), &[(S, &with_c), (Z, &record(S))]);
+    let with_c = [14, 13, 12, 11, 10, 9, 8, 7, 6, 5, 4, 3, 2, 1, Z];
+    check((S, Z, S + 14), &[(S, &with_c), (Z, &record(S))]);
+}
+
+/// No word is saved but the count; sixteen are restored, or none.
+#[test]
+fn an_empty_stack_collides() {
+    let record = |s: u16| [BASE_0, L, 26, MASK, s + 1, 4096];
+    for count in [0, 16] {
+        let check = |places: (u16, u16, u16), writes: &[(u16, &[u16])]| {
+            expect_transfer(&[], places, count, writes);
+        };
+        // Nothing touches; the count is saved over the other record, over the
+        // lowest of the other words, over their count.
+        for s in [S, Q + 4, 2000, 2000 + count] {
+            let writes: [(u16, &[u16]); 3] = [(s, &[0]), (Z, &record(s)), (FROM, &[Z])];
+            check((s, Z, FROM), &writes);
+        }
+        // Over the own record, which stays.
+        check((Z + 2, Z, FROM), &[(Z, &record(Z + 2)), (FROM, &[Z])]);
+        // The own record over the other one, and over the other count.
+        for p in [Q - 5, Q + 5, 1998 + count] {
+            let writes: [(u16, &[u16]); 3] = [(S, &[0]), (p, &record(S)), (FROM, &[p])];
+            check((S, p, FROM), &writes);
+        }
+        // Word c in the other record, over the other count, in the own record,
+        // over the saved count.
+        for from in [Q + 4, 2000 + count] {
+            let writes: [(u16, &[u16]); 3] = [(S, &[0]), (Z, &record(S)), (from, &[Z])];
+            check((S, Z, from), &writes);
+        }
+        let with_c = [BASE_0, L, Z, MASK, S + 1, 4096];
+        check((S, Z, Z + 2), &[(S, &[0]), (Z, &with_c)]);
+        check((S, Z, S), &[(S, &[Z]), (Z, &record(S))]);
+    }
 }
 
 /// Two processes in one module hand a number to and fro: the main program

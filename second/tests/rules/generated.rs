@@ -269,33 +269,28 @@ fn collisions_are_told_apart() {
     };
     let nothing = "nothing touching";
     check(APART, nothing);
-    let over_record = "the saved stack over the target's record";
-    check(Collision { s: 165, ..APART }, over_record);
-    check(Collision { s: 166, ..APART }, nothing);
-    let over_stack = "the saved stack over the target's stack";
-    check(Collision { s: 170, ..APART }, over_stack);
-    check(Collision { s: 171, ..APART }, nothing);
-    let over_own = "the saved stack over the own record";
-    check(Collision { s: 136, ..APART }, over_own);
-    check(Collision { s: 137, ..APART }, nothing);
-    let own_over_record = "the own record over the target's record";
-    check(Collision { p: 155, ..APART }, own_over_record);
-    check(Collision { p: 154, ..APART }, nothing);
-    let own_over_stack = "the own record over the target's stack";
-    check(
-        Collision {
-            stack: 136,
-            ..APART
-        },
-        own_over_stack,
-    );
-    check(
-        Collision {
-            stack: 137,
-            ..APART
-        },
-        nothing,
-    );
+    for (s, collision) in [
+        (165, "the saved stack over the target's record"),
+        (166, nothing),
+        (170, "the saved stack over the target's stack"),
+        (171, nothing),
+        (136, "the saved stack over the own record"),
+        (137, nothing),
+    ] {
+        check(Collision { s, ..APART }, collision);
+    }
+    for (p, collision) in [
+        (155, "the own record over the target's record"),
+        (154, nothing),
+    ] {
+        check(Collision { p, ..APART }, collision);
+    }
+    for (stack, collision) in [
+        (136, "the own record over the target's stack"),
+        (137, nothing),
+    ] {
+        check(Collision { stack, ..APART }, collision);
+    }
     for (word_c, collision) in [
         (165, "word c in the target's record"),
         (166, nothing),

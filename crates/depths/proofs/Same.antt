@@ -21,9 +21,16 @@ use Rattle.depths.specs.Lent.{light, lightOf, depthsOf, Copied, Placed}
 use Rattle.depths.proofs.Marks.{light-at}
 
 -- a choice whose first way may be exchanged where the test is passed
-by-first : (b : Bool) (f g h : Flow) → (b ≡ true → f ≡ g) → pick b f h ≡ pick b g h
+by-first : {A : Type 0} (b : Bool) (f g h : A) → (b ≡ true → f ≡ g) → pick b f h ≡ pick b g h
 by-first true f g h e = e refl
 by-first false f g h e = refl
+
+-- what is asked of a module if it is loaded, by the lent records: what its own record says
+pub lent-says : {A : Type 0} (count : ℕ) (procs tables : List ℕ) → length procs ≡ length tables → (f : Module → A) (said none : A) (k : ℕ)
+    → (k < count → f (light (getD procs k 0) (getD tables k 0)) ≡ said)
+    → pick (ltb k count) (f (moduleOf (lightOf count procs tables) k)) none ≡ pick (ltb k count) said none
+lent-says count procs tables s f said none k h =
+    by-first (ltb k count) (f (moduleOf (lightOf count procs tables) k)) said none (λ t. ap f (light-at procs tables k s) ∙ h (ltb-true k count t))
 
 module _ (image : List ℕ) (program : Program) (procs tables : List ℕ) (C : Copied program procs tables) where
   abbrev lit : Program
@@ -36,10 +43,8 @@ module _ (image : List ℕ) (program : Program) (procs tables : List ℕ) (C : C
   calls-in-same : (k i n e : ℕ) → callsIn image lit k i n e ≡ callsIn image program k i n e
   unfolding callsIn
   calls-in-same k i n e =
-      by-first (ltb k (program .count)) (calls image (moduleOf lit k) i n e) (calls image (moduleOf program k) i n e) Fault (λ z.
-      let l = ltb-true k (program .count) z in
-      ap (λ (m : Module). calls image m i n e) (light-at procs tables k (C .long ∙ sym (C .wide)))
-      ∙ calls-same (light (getD procs k 0) (getD tables k 0)) (moduleOf program k) i n e (C .procs-are k l) (C .tables-are k l))
+      lent-says (program .count) procs tables (C .long ∙ sym (C .wide)) (λ (m : Module). calls image m i n e) (calls image (moduleOf program k) i n e) Fault k
+      (λ l. calls-same (light (getD procs k 0) (getD tables k 0)) (moduleOf program k) i n e (C .procs-are k l) (C .tables-are k l))
 
   depth-same : (m : Module) (p d : ℕ) → depthFlow image lit m p d ≡ depthFlow image program m p d
   unfolding depthFlow onward

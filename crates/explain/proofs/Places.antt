@@ -7,7 +7,7 @@ use Prim.Native.Nat.{ℕ, _+_, _-_, _≤_, _<_}
 use native.Mathlib.Omega.{arith}
 use lib.ListN.{length, getD, replicate, length-replicate}
 use lib.Dec.{ltb, leb, eqb}
-use borrow.Author.Tests.{ltb-true, eq-eqb, ne-eqb, lt-leb, lt-ltb, le-ltb}
+use borrow.Author.Tests.{eq-eqb, ne-eqb, lt-ltb, le-ltb}
 use Rattle.mcode.specs.declared.Flow.the-variants as Flow
 use Rattle.mcode.specs.declared.Module.{Module}
 use Rattle.mcode.specs.declared.Parsed.{Parsed}
@@ -20,12 +20,12 @@ use Rattle.mcode.specs.Depths.{Analysis, NoneFits, flowAt, depths}
 use Rattle.mcode.specs.Walk.{walk, Reached, AllWhole, Broken}
 use Rattle.mcode.specs.Run.{Judged, accepts, breaks, unfit, Loads}
 use Rattle.mcode.specs.Demands.{LoadAccepts}
-use Rattle.mcode.proofs.Load.{load-accepts}
+use Rattle.mcode.proofs.Load.{judged, load-accepts}
 use Rattle.mcode.proofs.Reached.{walk-fits}
 use Rattle.mcode.proofs.Tests.{inside}
 use Rattle.depths.specs.Lent.{light, lightOf, depthsOf, Copied}
 use Rattle.depths.proofs.Marks.{light-at}
-use Rattle.depths.proofs.Same.{depths-same}
+use Rattle.depths.proofs.Same.{lent-says, depths-same}
 use Rattle.explain.specs.declared.Why.{Why}
 use Rattle.explain.specs.declared.Why.the-variants.{Unknown, Fault, Meet, Rule, Call}
 use Rattle.explain.specs.Reason.{faultThere, namedParams, AtPlace, Unfit, Explained}
@@ -46,13 +46,9 @@ module _ (image : List ℕ) (program : Program) (procs tables : List ℕ) (C : C
   flow-so p x e = sym (ap (λ (A : Analysis). A .flow p x) (depths-same image program procs tables C m)) ∙ e
 
   there : (b c : ℕ) → pick (ltb b (program .count)) (paramsOf image (moduleOf lit b) c) 0 ≡ pick (ltb b (program .count)) (paramsOf image (moduleOf program b) c) 0
-  there b c = go (ltb b (program .count)) refl
-    where
-      go : (t : Bool) → ltb b (program .count) ≡ t → pick t (paramsOf image (moduleOf lit b) c) 0 ≡ pick t (paramsOf image (moduleOf program b) c) 0
-      go true e =
-          let l = ltb-true b (program .count) e in
-          rw (light-at procs tables b (C .long ∙ sym (C .wide)), C .procs-are b l, C .tables-are b l) refl
-      go false e = refl
+  there b c =
+      lent-says (program .count) procs tables (C .long ∙ sym (C .wide)) (λ (j : Module). paramsOf image j c) (paramsOf image (moduleOf program b) c) 0 b
+      (λ l. rw (C .procs-are b l, C .tables-are b l) refl)
 
   params-so : (op b c : ℕ) → namedParams image lit m op b c ≡ namedParams image program m op b c
   params-so op b c = ap (λ (n : ℕ). pick (eqb op 0o355) n (paramsOf image m (pick (leb op 0o360) b (op - 0o360)))) (there b c)
@@ -82,16 +78,13 @@ reached-inside image m S p r =
 
 -- the place of 13
 module _ (image before after : List ℕ) (v : Verdict) (L : Loads image before v after) (r : Parsed) (e : r ≡ parse image) (read : r .refusal < 1) (long : length image ≤ length before) (n : v .number ≡ 13) where
-  judged : Judged image (parse image .program) before v after
-  judged = rw (lt-leb 1 (parse image .refusal) (subst (λ (p : Parsed). p .refusal < 1) e read), le-ltb (length before) (length image) long) at L
-
   broken : Judged image (parse image .program) before v after → Broken image (parse image .program) (v .unit) (v .pc .0)
   broken (accepts q A) = absurd (omega (arith, n, ap (λ (w : Verdict). w .number) q))
   broken (breaks q B D) = B
   broken (unfit q W N D) = absurd (omega (arith, n, ap (λ (w : Verdict). w .number) q))
 
   pub broken-so : Broken image (r .program) (v .unit) (v .pc .0)
-  broken-so = subst (λ (p : Parsed). Broken image (p .program) (v .unit) (v .pc .0)) (sym e) (broken judged)
+  broken-so = subst (λ (p : Parsed). Broken image (p .program) (v .unit) (v .pc .0)) (sym e) (broken (judged image before v after L (omega (arith, subst (λ (p : Parsed). p .refusal < 1) e read)) long))
 
   pub place-so : Told image (r .program) → (v .unit < r .program .count) × (v .pc .0 < moduleOf (r .program) (v .unit) .length)
   place-so T =

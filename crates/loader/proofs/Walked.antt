@@ -1,21 +1,19 @@
 -- The walk of all modules: what is whole by the lent counts is whole in the program, and the first module at fault decides.
 use mathlib.Core.Path.{_≡_, refl, sym, ap, _∙_}
 use mathlib.Core.Logic.{inl, inr}
-use mathlib.Core.Bool.{Bool, true, false}
+use mathlib.Core.Bool.{false}
 use mathlib.Core.List.{List}
 use Prim.Native.Nat.{ℕ, _<_}
 use lib.Dec.{ltb}
-use borrow.Author.Tests.{ltb-true}
-use Rattle.mcode.specs.declared.Cause.{Cause}
 use Rattle.mcode.specs.declared.Module.{Module}
 use Rattle.mcode.specs.declared.Program.{Program}
 use Rattle.mcode.specs.declared.Verdict.{Verdict}
-use Rattle.mcode.specs.Word.{pick, and}
+use Rattle.mcode.specs.Word.{and}
 use Rattle.mcode.specs.Image.{moduleOf, procCount}
 use Rattle.mcode.specs.Walk.{named, causeAt, isNothing, wholeAt, Whole, AllWhole}
 use Rattle.mcode.specs.Run.{verdict, faultAt}
-use Rattle.depths.specs.Lent.{light, Copied}
-use Rattle.depths.proofs.Marks.{light-at}
+use Rattle.depths.specs.Lent.{Copied}
+use Rattle.depths.proofs.Same.{lent-says}
 use Rattle.walk.specs.declared.Scan.the-variants.{Whole as AllWell, Fault}
 use Rattle.walk.specs.Set.{counted, Scanned}
 use Rattle.loader.specs.Load.{Walked}
@@ -25,11 +23,9 @@ module _ (image : List ℕ) (program : Program) (procs tables : List ℕ) (C : C
   lit = counted (program .count) procs
 
   has-same : (k i : ℕ) → and (ltb k (program .count)) (ltb i (procCount (moduleOf lit k))) ≡ and (ltb k (program .count)) (ltb i (procCount (moduleOf program k)))
-  has-same k i = go (ltb k (program .count)) refl
-    where
-      go : (t : Bool) → ltb k (program .count) ≡ t → and t (ltb i (procCount (moduleOf lit k))) ≡ and t (ltb i (procCount (moduleOf program k)))
-      go true h = rw (light-at procs procs k refl, C .procs-are k (ltb-true k (program .count) h)) refl
-      go false h = refl
+  has-same k i =
+      lent-says (program .count) procs procs refl (λ (m : Module). ltb i (procCount m)) (ltb i (procCount (moduleOf program k))) false k
+      (λ l. rw (C .procs-are k l) refl)
 
   module _ (m : Module) (p : ℕ) where
     pub cause-same : causeAt image lit m p ≡ causeAt image program m p

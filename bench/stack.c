@@ -9,10 +9,12 @@
 #define STACK 1048576
 #define PAINT 0xA5
 #define MOST_BYTES 65536
+#define MOST_ENTRIES 65535
 #define WORDS 4096
 #define STEPS 100000
 
-static uint8_t image[MOST_BYTES], map[MOST_BYTES];
+static uint8_t image[MOST_BYTES];
+static uint32_t map[MOST_ENTRIES];
 static uint16_t place[CEMBUXOLA_PLACE_WORDS], store[WORDS], machine[CEMBUXOLA_MACHINE_WORDS], outputs[CEMBUXOLA_CHANNELS];
 static const uint16_t inputs[CEMBUXOLA_CHANNELS];
 static uint32_t answer[CEMBUXOLA_ANSWER_NUMBERS];
@@ -24,7 +26,7 @@ static void none(void)
 
 static void load(void)
 {
-    cembuxola_load(image, length, map, MOST_BYTES, place, CEMBUXOLA_PLACE_WORDS);
+    cembuxola_load(image, length, map, MOST_ENTRIES, place, CEMBUXOLA_PLACE_WORDS);
 }
 
 static void start(void)
@@ -34,8 +36,8 @@ static void start(void)
 
 static void run(void)
 {
-    cembuxola_run(machine, CEMBUXOLA_MACHINE_WORDS, image, length, map, MOST_BYTES, store, WORDS, outputs, CEMBUXOLA_CHANNELS, inputs,
-                  CEMBUXOLA_CHANNELS, answer, CEMBUXOLA_ANSWER_NUMBERS, STEPS);
+    cembuxola_run(machine, CEMBUXOLA_MACHINE_WORDS, image, length, map, MOST_ENTRIES, store, WORDS, outputs, CEMBUXOLA_CHANNELS,
+                  inputs, CEMBUXOLA_CHANNELS, answer, CEMBUXOLA_ANSWER_NUMBERS, STEPS);
 }
 
 static size_t taken(void (*call)(void))

@@ -4,13 +4,23 @@
  * between calls and write only to the buffers named below, so any number of machines may run side by side, in threads too.
  * Of the stack, load takes about 78 KB, start 7 KB and run 10 KB (measured: bench/size, docs/PERFORMANCE.md).
  *
- * Each buffer passes as a pointer, then its length in ELEMENTS: bytes of an image or a map, words of a place, a store, a machine, inputs
- * or outputs, numbers of an answer. The caller keeps these rules, which no function can test:
- *   - a pointer is not NULL, also where the length is 0, is aligned for its elements, and that many elements stand there;
+ * Each buffer passes as a pointer, then its length in ELEMENTS: bytes of an image, entries of a map, words of a place, a store, a machine,
+ * inputs or outputs, numbers of an answer. The caller keeps these rules, which no function can test:
+ *   - a pointer is not NULL, also where the length is 0, is aligned for its elements (a map's as a uint32_t), and that many elements stand
+ *     there;
  *   - a buffer that a function writes overlaps no other buffer of the call, and nobody else reads or writes it meanwhile;
  *   - nobody writes a buffer that a function reads meanwhile.
  * Every content and every length is answered with a number: nothing else is asked of the caller. What each function answers, and what
  * it leaves in every buffer, is proved equal to what the definition says (crates/capi/specs, crates/mcode/specs).
+ *
+ * A map has one entry for each byte of the image: 4 bytes of memory an image byte, 262,140 bytes for the largest image. An entry is a
+ * mark where an instruction begins that can be reached:
+ *   bits 0-4    depth, the words on the expression stack before the instruction, 0 to 16
+ *   bits 5-7    results of the procedure that the instruction belongs to, 0 to 4
+ *   bits 8-10   how many saved depths follow, 0 to 4: each the number of words that a STORE has saved and a LODFW is yet to restore
+ *   bits 11-15  the first of them, that of the last STORE, 0 to 16
+ *   bits 16-20  the second, of the STORE before it; bits 21-25 the third, bits 26-30 the fourth
+ * Unused bits are 0, bit 31 too. FFFFFFFF hex is unmarked. An entry of any other form fits nowhere.
  *
  * The place of a load is CEMBUXOLA_PLACE_WORDS words:
  *   word 0      module, the first one that is not whole
@@ -61,7 +71,7 @@ enum {
     CEMBUXOLA_BYTES_AFTER = 4,    /* bytes follow the last module */
     CEMBUXOLA_BIT_MAP = 5,        /* one of the bits 3 to 7 of a bit map stands */
     CEMBUXOLA_FIELD = 6,          /* a field is out of range */
-    CEMBUXOLA_MAP_SHORT = 7,      /* the map is shorter than the image */
+    CEMBUXOLA_MAP_SHORT = 7,      /* the map has fewer entries than the image has bytes */
     CEMBUXOLA_NO_DEPTHS = 8,      /* the code is whole and no depths fit */
     CEMBUXOLA_STORE_SIZE = 9,     /* the store has too few words for the image, or over 65,535 */
     CEMBUXOLA_CHANNEL_COUNT = 10, /* the inputs or the outputs are not 16 words */
@@ -79,7 +89,7 @@ enum {
     CEMBUXOLA_ENDED = 31,        /* the program has ended */
     CEMBUXOLA_ADDRESS = 32,      /* trap: an address not below the store's length */
     CEMBUXOLA_STACK_LIMIT = 33,  /* trap: the stack would pass H */
-    CEMBUXOLA_RETURN_MARK = 34,  /* trap: no place to return to */
+    CEMBUXOLA_RETURN_MARK = 34,  /* trap: no place to return to, or no saved words to restore */
     CEMBUXOLA_PROCESS = 35,      /* trap: no process to transfer to */
     CEMBUXOLA_DIVISOR = 36,      /* trap: a divisor of 0 */
     CEMBUXOLA_SIGNED_RANGE = 37, /* trap: a result outside -32,768 to 32,767 */
@@ -88,13 +98,13 @@ enum {
     CEMBUXOLA_PROGRAM = 40       /* trap by the program, with its code */
 };
 
-/* Tests an image and fills its map, one byte an image byte: at each position that can be reached the depth of the expression stack plus
- * 17 times the results of the procedure that it belongs to, 0 to 84; FF hex elsewhere. Answers 0, or a refusal 1 to 8, 13 or 20.
+/* Tests an image and fills its map: a mark at each position that can be reached, unmarked elsewhere. Answers 0, or a refusal 1 to 8, 13
+ * or 20.
  *   image  read
- *   map    as long as the image or longer. 0: filled over the image's length. 13 and 8: FF hex over the image's length. Every other
- *          refusal leaves it as it was. Bytes past the image's length are never written.
+ *   map    as many entries as the image has bytes, or more. 0: so many are filled. 13 and 8: so many are unmarked. Every other refusal
+ *          leaves it as it was. Entries past the image's length are never written.
  *   place  CEMBUXOLA_PLACE_WORDS words, written: module and position at 13, else 0 and 0. 20 leaves them as they were. */
-uint16_t cembuxola_load(const uint8_t *image, size_t image_length, uint8_t *map, size_t map_length, uint16_t *place,
+uint16_t cembuxola_load(const uint8_t *image, size_t image_length, uint32_t *map, size_t map_length, uint16_t *place,
                         size_t place_length);
 
 /* Clears the store and makes the machine that stands at procedure 0 of module 0. Answers 0, or a refusal 1 to 6, 9 or 20.
@@ -115,7 +125,7 @@ uint16_t cembuxola_start(const uint8_t *image, size_t image_length, uint16_t *st
  *   inputs   CEMBUXOLA_CHANNELS words, read
  *   answer   CEMBUXOLA_ANSWER_NUMBERS numbers, written: count and code. 20 leaves them as they were.
  *   n        the most steps, 0 to 4,294,967,295 */
-uint16_t cembuxola_run(uint16_t *machine, size_t machine_length, const uint8_t *image, size_t image_length, const uint8_t *map,
+uint16_t cembuxola_run(uint16_t *machine, size_t machine_length, const uint8_t *image, size_t image_length, const uint32_t *map,
                        size_t map_length, uint16_t *store, size_t store_length, uint16_t *outputs, size_t outputs_length,
                        const uint16_t *inputs, size_t inputs_length, uint32_t *answer, size_t answer_length, uint32_t n);
 

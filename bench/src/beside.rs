@@ -6,8 +6,9 @@ use crate::images::{self, Long, Loop, LONG};
 use crate::mixed;
 use crate::sides::Compared;
 use crate::speed::{line, INPUTS, WORDS};
+use cembuxola::c::Library;
 use cembuxola::{ANSWER_NUMBERS, MACHINE_WORDS, PLACE_WORDS};
-use std::ffi::{c_char, c_int, c_void, CString};
+use std::ffi::{c_char, c_int, c_void, CStr, CString};
 use std::time::Instant;
 
 /// Places of the code, in bytes from a multiple of 64: what bench/beside names its shared objects by.
@@ -29,72 +30,42 @@ extern "C" {
     fn dlsym(object: *mut c_void, name: *const c_char) -> *mut c_void;
 }
 
-/// A library from before A.3 takes no place. On x86-64 a C function ignores two further arguments, so one declaration serves both.
-type Load = unsafe extern "C" fn(*const u8, usize, *mut u8, usize, *mut u16, usize) -> u16;
-type Start = unsafe extern "C" fn(*const u8, usize, *mut u16, usize, *mut u16, usize) -> u16;
-type Run = unsafe extern "C" fn(
-    *mut u16,
-    usize,
-    *const u8,
-    usize,
-    *const u8,
-    usize,
-    *mut u16,
-    usize,
-    *mut u16,
-    usize,
-    *const u16,
-    usize,
-    *mut u32,
-    usize,
-    u32,
-) -> u16;
-
-/// A build of the library at one place.
-struct Build {
-    load: Load,
-    start: Start,
-    run: Run,
-}
-
 /// A program on one build, with buffers of its own. The store is the words from `at` on.
 struct Begun<'a> {
-    build: &'a Build,
+    build: &'a Library,
     image: &'a [u8],
-    map: Vec<u8>,
+    map: Vec<u32>,
     words: Vec<u16>,
     at: usize,
     outputs: [u16; 16],
     machine: [u16; MACHINE_WORDS],
 }
 
-impl Build {
-    /// A shared object of the library; it stays open.
-    fn open(path: &str) -> Compared<Build> {
-        let name = CString::new(path).map_err(|error| error.to_string())?;
-        // SAFETY: a path, and the names of functions, as C strings.
-        let object = unsafe { dlopen(name.as_ptr(), NOW) };
-        if object.is_null() {
-            return Err(format!("{path} cannot be opened"));
-        }
-        let function = |name: &std::ffi::CStr| match unsafe { dlsym(object, name.as_ptr()) } {
-            found if found.is_null() => Err(format!("{path} has no {name:?}")),
-            found => Ok(found),
-        };
-        // SAFETY: include/cembuxola.h declares the functions so, and `Load` says what holds of an older one.
-        unsafe {
-            Ok(Build {
-                load: std::mem::transmute::<*mut c_void, Load>(function(c"cembuxola_load")?),
-                start: std::mem::transmute::<*mut c_void, Start>(function(c"cembuxola_start")?),
-                run: std::mem::transmute::<*mut c_void, Run>(function(c"cembuxola_run")?),
-            })
-        }
+/// A shared object of the library; it stays open.
+///
+/// A library from before A.3 takes no place: on x86-64 a C function ignores two further arguments. The map of one from before A.5 has a byte
+/// where it has an entry now, so the first bytes of the same buffer are enough.
+fn open(path: &str) -> Compared<Library> {
+    let name = CString::new(path).map_err(|error| error.to_string())?;
+    // SAFETY: a path, and the names of functions, as C strings.
+    let object = unsafe { dlopen(name.as_ptr(), NOW) };
+    if object.is_null() {
+        return Err(format!("{path} cannot be opened"));
     }
+    let function = |name: &CStr| match unsafe { dlsym(object, name.as_ptr()) } {
+        found if found.is_null() => Err(format!("{path} has no {name:?}")),
+        found => Ok(found),
+    };
+    let load = function(c"cembuxola_load")?;
+    let start = function(c"cembuxola_start")?;
+    let run = function(c"cembuxola_run")?;
+    // SAFETY: the functions are as include/cembuxola.h declares them, or take less, as said above; the object stays open.
+    Ok(unsafe { Library::at(load, start, run) })
 }
 
 impl<'a> Begun<'a> {
     /// With the store so many bytes after a multiple of 4,096.
-    fn new(build: &'a Build, image: &'a [u8], offset: usize) -> Begun<'a> {
+    fn new(build: &'a Library, image: &'a [u8], offset: usize) -> Begun<'a> {
         let words = vec![0; WORDS + PAGE / 2];
         let at = (2 * PAGE + offset - words.as_ptr() as usize % PAGE) % PAGE / 2;
         Begun {
@@ -115,68 +86,33 @@ impl<'a> Begun<'a> {
             return false;
         }
         for &(address, word) in patches {
-            self.store()[usize::from(address)] = word;
+            self.words[self.at + usize::from(address)] = word;
         }
         true
     }
 
-    fn store(&mut self) -> &mut [u16] {
-        &mut self.words[self.at..self.at + WORDS]
-    }
-
     fn load(&mut self) -> u16 {
         let mut place = [0; PLACE_WORDS];
-        let (image, map) = (self.image, &mut self.map);
-        // SAFETY: each pointer and length are those of a slice, and a slice that is written overlaps no other; below too.
-        unsafe {
-            (self.build.load)(
-                image.as_ptr(),
-                image.len(),
-                map.as_mut_ptr(),
-                map.len(),
-                place.as_mut_ptr(),
-                place.len(),
-            )
-        }
+        self.build.load(self.image, &mut self.map, &mut place)
     }
 
     fn start(&mut self) -> u16 {
-        let store = self.store().as_mut_ptr();
-        let (image, machine) = (self.image, &mut self.machine);
-        unsafe {
-            (self.build.start)(
-                image.as_ptr(),
-                image.len(),
-                store,
-                WORDS,
-                machine.as_mut_ptr(),
-                machine.len(),
-            )
-        }
+        let store = &mut self.words[self.at..self.at + WORDS];
+        self.build.start(self.image, store, &mut self.machine)
     }
 
     fn run(&mut self, n: u32) -> u16 {
         let mut answer = [0; ANSWER_NUMBERS];
-        let store = self.store().as_mut_ptr();
-        unsafe {
-            (self.build.run)(
-                self.machine.as_mut_ptr(),
-                self.machine.len(),
-                self.image.as_ptr(),
-                self.image.len(),
-                self.map.as_ptr(),
-                self.map.len(),
-                store,
-                WORDS,
-                self.outputs.as_mut_ptr(),
-                self.outputs.len(),
-                INPUTS.as_ptr(),
-                INPUTS.len(),
-                answer.as_mut_ptr(),
-                answer.len(),
-                n,
-            )
-        }
+        self.build.run(
+            &mut self.machine,
+            self.image,
+            &self.map,
+            &mut self.words[self.at..self.at + WORDS],
+            &mut self.outputs,
+            &INPUTS,
+            &mut answer,
+            n,
+        )
     }
 }
 
@@ -242,7 +178,7 @@ impl Work {
     }
 
     /// One more turn of each build in each layout.
-    fn turn(&mut self, builds: &[[Build; PLACES.len()]; 2]) -> Compared<()> {
+    fn turn(&mut self, builds: &[[Library; PLACES.len()]; 2]) -> Compared<()> {
         for layout in 0..LAYOUTS {
             let offset = STRIDE * layout;
             for (side, build) in builds.iter().enumerate() {
@@ -317,13 +253,12 @@ fn print(works: &[&Work]) {
 
 /// Times the builds in the shared objects that bench/beside made in this folder.
 pub fn beside(folder: &str, passes: u64) -> Compared<()> {
-    let open = |side: &str, place: usize| Build::open(&format!("{folder}/{side}.{place}.so"));
     let mut builds = Vec::new();
     for side in ["before", "after"] {
-        let [a, b, c, d] = PLACES.map(|place| open(side, place));
+        let [a, b, c, d] = PLACES.map(|place| open(&format!("{folder}/{side}.{place}.so")));
         builds.push([a?, b?, c?, d?]);
     }
-    let builds: [[Build; PLACES.len()]; 2] = builds.try_into().map_err(|_| "two builds")?;
+    let builds: [[Library; PLACES.len()]; 2] = builds.try_into().map_err(|_| "two builds")?;
     let mut works = works();
     for _ in 0..passes {
         for work in &mut works {

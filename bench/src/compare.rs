@@ -2,7 +2,8 @@
 
 use crate::sides::{Compared, Sides};
 use crate::words::words;
-use cembuxola::{c as engine, ANSWER_NUMBERS, MACHINE_WORDS, PLACE_WORDS};
+use cembuxola::c::LINKED as ENGINE;
+use cembuxola::{ANSWER_NUMBERS, MACHINE_WORDS, PLACE_WORDS};
 use second::case::Case;
 use second::gen;
 use std::collections::BTreeMap;
@@ -30,9 +31,9 @@ impl Total {
         *self.loads.entry(sides.load()?).or_default() += 1;
         sides.start()?;
         for (index, run) in case.runs.iter().enumerate() {
-            for &(offset, byte) in &run.map_patches {
-                sides.ours.map[usize::from(offset)] = byte;
-                sides.theirs.map[usize::from(offset)] = byte;
+            for &(offset, entry) in &run.map_patches {
+                sides.ours.map[usize::from(offset)] = entry;
+                sides.theirs.map[usize::from(offset)] = entry;
             }
             for &(address, word) in &run.store_patches {
                 sides.ours.store[usize::from(address)] = word;
@@ -62,7 +63,7 @@ fn wrong_places(sides: &Sides) -> Compared<()> {
     for words in [0, PLACE_WORDS - 1, PLACE_WORDS + 1] {
         let mut map = sides.ours.map.clone();
         let mut place = vec![7; words];
-        let number = engine::load(&sides.image, &mut map, &mut place);
+        let number = ENGINE.load(&sides.image, &mut map, &mut place);
         let kept = map == sides.ours.map && place.iter().all(|&word| word == 7);
         if number != 20 || !kept {
             return Err(format!(
@@ -80,7 +81,7 @@ fn wrong_lengths(sides: &Sides, inputs: &[u16], n: u32) -> Compared<()> {
         let mut ours = sides.ours.clone();
         let mut machine = vec![7; machine_words];
         let mut answer = vec![7; answer_numbers];
-        let number = engine::run(
+        let number = ENGINE.run(
             &mut machine,
             &sides.image,
             &ours.map,
@@ -92,7 +93,7 @@ fn wrong_lengths(sides: &Sides, inputs: &[u16], n: u32) -> Compared<()> {
         );
         let mut numbers = vec![number];
         if machine_words != MACHINE_WORDS {
-            numbers.push(engine::start(&sides.image, &mut ours.store, &mut machine));
+            numbers.push(ENGINE.start(&sides.image, &mut ours.store, &mut machine));
         }
         let kept = machine.iter().all(|&word| word == 7)
             && answer.iter().all(|&number| number == 7)

@@ -177,6 +177,30 @@ fn external_calls() -> Loop {
     plain("external calls", &[main, function])
 }
 
+/// x := 1 + f(1 + f( .. f(2))), so many calls deep: what stands before a call is saved, and restored below its result.
+fn nested_calls(depth: usize) -> Vec<u8> {
+    let saved = [1, 0o262].repeat(depth);
+    let called = [0o361, 0o260, 0o270].repeat(depth);
+    [&saved[..], &[2], &called, &[0o064]].concat()
+}
+
+/// A module of this code, with the function f of one parameter behind it, which adds 1.
+fn with_function(mut code: Vec<u8>) -> Source {
+    let function = code.len();
+    code.extend([1, 0o270, 0o354]);
+    Source {
+        procedures: vec![procedure(0, 0, 0), procedure(function, 1, 1)],
+        ..with_data(code)
+    }
+}
+
+const CALLS: &str = "calls in expressions";
+
+/// A call in the argument of another one.
+fn calls_in_expressions() -> Loop {
+    plain(CALLS, &[with_function(repeated(&nested_calls(2)))])
+}
+
 /// Bytes of a string at G+3, set and read.
 fn bytes() -> Loop {
     let body = [
@@ -272,6 +296,7 @@ pub fn loops() -> Vec<Loop> {
         double_words(),
         local_calls(),
         external_calls(),
+        calls_in_expressions(),
         bytes(),
         signed_arithmetic(),
         transfers("transfers, 2 words", 2, OTHER_STACK),
@@ -340,6 +365,19 @@ fn straight(bytes: usize) -> Shape {
     }
 }
 
+/// Calls in expressions, one to four deep in turn.
+fn saved_stacks(bytes: usize) -> Shape {
+    let each: Vec<u8> = (1..=4).flat_map(nested_calls).collect();
+    let mut code = [0o353, 8].to_vec();
+    code.extend(each.repeat(bytes / each.len()));
+    code.push(0o354);
+    Shape {
+        name: CALLS,
+        end: code.len() - 1,
+        module: with_function(code),
+    }
+}
+
 /// A jump to the last of many jumps, each of which leads back to the one before it.
 fn backward_jumps(bytes: usize) -> Shape {
     let [high, low] = (bytes as u16 + 1).to_be_bytes();
@@ -397,6 +435,7 @@ pub fn long_images() -> Vec<Long> {
     vec![
         procedures("ordinary image", 0, 22),
         procedures("function procedures", 4, 20),
+        twice(saved_stacks(LONG)),
         twice(straight(LONG)),
         twice(backward_jumps(LONG)),
         twice(forks(LONG)),

@@ -1,7 +1,8 @@
 //! The same calls on both sides, each with buffers of its own, compared after every call.
 
 use crate::words::words;
-use cembuxola::{c as engine, ANSWER_NUMBERS, MACHINE_WORDS, PLACE_WORDS};
+use cembuxola::c::LINKED as ENGINE;
+use cembuxola::{ANSWER_NUMBERS, MACHINE_WORDS, PLACE_WORDS};
 use second::Machine;
 
 /// The buffers and the machine of a program on both sides.
@@ -15,7 +16,7 @@ pub struct Sides {
 /// The proved engine's.
 #[derive(Clone)]
 pub struct Ours {
-    pub map: Vec<u8>,
+    pub map: Vec<u32>,
     pub store: Vec<u16>,
     pub outputs: Vec<u16>,
     pub machine: [u16; MACHINE_WORDS],
@@ -24,7 +25,7 @@ pub struct Ours {
 /// The second interpreter's.
 #[derive(Clone)]
 pub struct Theirs {
-    pub map: Vec<u8>,
+    pub map: Vec<u32>,
     pub store: Vec<u16>,
     pub outputs: Vec<u16>,
     pub machine: Machine,
@@ -56,7 +57,7 @@ fn same_list<T: PartialEq + Copy + std::fmt::Debug>(
 }
 
 impl Sides {
-    pub fn new(image: &[u8], map: Vec<u8>, store: Vec<u16>, outputs: Vec<u16>) -> Sides {
+    pub fn new(image: &[u8], map: Vec<u32>, store: Vec<u16>, outputs: Vec<u16>) -> Sides {
         Sides {
             image: image.to_vec(),
             ours: Ours {
@@ -100,7 +101,7 @@ impl Sides {
     pub fn start(&mut self) -> Compared<u16> {
         // every word is written, whatever stood there
         self.ours.machine = [0xABCD; MACHINE_WORDS];
-        let number = engine::start(&self.image, &mut self.ours.store, &mut self.ours.machine);
+        let number = ENGINE.start(&self.image, &mut self.ours.store, &mut self.ours.machine);
         let (other, machine) = second::start(&self.image, &mut self.theirs.store);
         self.theirs.machine = machine;
         same("start", number, u16::from(other))?;
@@ -125,7 +126,7 @@ impl Ours {
     pub fn load(&mut self, image: &[u8]) -> (u16, [u16; PLACE_WORDS]) {
         // both words are written, whatever stood there
         let mut place = [0xABCD; PLACE_WORDS];
-        let number = engine::load(image, &mut self.map, &mut place);
+        let number = ENGINE.load(image, &mut self.map, &mut place);
         (number, place)
     }
 
@@ -137,7 +138,7 @@ impl Ours {
             outputs,
             machine,
         } = self;
-        let number = engine::run(machine, image, map, store, outputs, inputs, &mut answer, n);
+        let number = ENGINE.run(machine, image, map, store, outputs, inputs, &mut answer, n);
         (number, answer)
     }
 }

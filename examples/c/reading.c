@@ -1,6 +1,7 @@
 /* reading FILE: the desk's reading of an image, in C: load, start and one run with W = 4,096, inputs 0, outputs first 0 and n = 1,000.
  * Prints the stop and the outputs, or `refused` and the number; where code is not whole, standard error says at which place.
- * examples/c/build builds it. */
+ * Its map is that of the largest image, so it reads every one that load accepts; the desk program's has 16,384 entries, and a longer image
+ * that passes the earlier checks is refused with 7 there. examples/c/build builds it. */
 #include <stdio.h>
 
 #include "cembuxola.h"
@@ -9,9 +10,11 @@
 #define STEPS 1000
 /* One byte more than an image may have, so that a longer file is refused as such. */
 #define MOST_BYTES 65536
+/* One for each byte of the largest image. */
+#define MOST_ENTRIES 65535
 
 static uint8_t image[MOST_BYTES];
-static uint8_t map[MOST_BYTES];
+static uint32_t map[MOST_ENTRIES];
 static uint16_t place[CEMBUXOLA_PLACE_WORDS];
 static uint16_t store[WORDS];
 static uint16_t machine[CEMBUXOLA_MACHINE_WORDS];
@@ -33,7 +36,7 @@ static void say_place(const char *name)
 
 static int read_and_run(const char *name, size_t length)
 {
-    unsigned number = cembuxola_load(image, length, map, MOST_BYTES, place, CEMBUXOLA_PLACE_WORDS);
+    unsigned number = cembuxola_load(image, length, map, MOST_ENTRIES, place, CEMBUXOLA_PLACE_WORDS);
     if (number == CEMBUXOLA_NOT_WHOLE)
         say_place(name);
     if (number != CEMBUXOLA_ACCEPTED)
@@ -41,7 +44,7 @@ static int read_and_run(const char *name, size_t length)
     number = cembuxola_start(image, length, store, WORDS, machine, CEMBUXOLA_MACHINE_WORDS);
     if (number != CEMBUXOLA_ACCEPTED)
         return refused(number);
-    number = cembuxola_run(machine, CEMBUXOLA_MACHINE_WORDS, image, length, map, MOST_BYTES, store, WORDS, outputs,
+    number = cembuxola_run(machine, CEMBUXOLA_MACHINE_WORDS, image, length, map, MOST_ENTRIES, store, WORDS, outputs,
                            CEMBUXOLA_CHANNELS, inputs, CEMBUXOLA_CHANNELS, answer, CEMBUXOLA_ANSWER_NUMBERS, STEPS);
     if (number < CEMBUXOLA_SPENT)
         return refused(number);

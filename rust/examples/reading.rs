@@ -1,5 +1,6 @@
 //! reading FILE: the desk's reading of an image, by the wrapper: W = 4,096, inputs 0, outputs first 0, n = 1,000. Where code is not whole,
-//! standard error says at which place.
+//! standard error says at which place. It reads every image that load accepts, its map being as long as the image; the desk program's has
+//! 16,384 entries.
 
 use cembuxola::{Cabinet, Refusal, CHANNELS};
 use std::process::ExitCode;

@@ -4,12 +4,16 @@
 //! map, store, outputs and machine, and only runs it.
 //!
 //! The numbers of the C functions become types: a [`Refusal`], or a [`Stop`]. What the calls answer, and what they leave in every
-//! buffer, is proved of the library; here only names are given to it.
+//! buffer, is proved of the library; here only names are given to it. [`Mark::of`] reads the entries of a map.
 
 pub mod c;
+mod mark;
 mod numbers;
 
+pub use mark::{Mark, UNMARKED};
 pub use numbers::{Place, Refusal, Stop};
+
+use c::LINKED;
 
 /// The words of a load's place: module and position.
 pub const PLACE_WORDS: usize = 2;
@@ -57,17 +61,18 @@ pub struct Ran {
     pub count: u32,
 }
 
-/// Tests an image and fills its map, which is as long as the image or longer. Where the code is not whole, the refusal has the place.
-pub fn load(image: &[u8], map: &mut [u8]) -> Result<(), Refusal> {
+/// Tests an image and fills its map, which has as many entries as the image has bytes, or more. Where the code is not whole, the refusal
+/// has the place.
+pub fn load(image: &[u8], map: &mut [u32]) -> Result<(), Refusal> {
     let mut place = [0; PLACE_WORDS];
-    let number = c::load(image, map, &mut place);
+    let number = LINKED.load(image, map, &mut place);
     Refusal::loaded(number, place)
 }
 
 /// Clears the store and makes the machine that stands at procedure 0 of module 0.
 pub fn start(image: &[u8], store: &mut [u16]) -> Result<Machine, Refusal> {
     let mut machine = Machine::default();
-    Refusal::accepted(c::start(image, store, &mut machine.words))?;
+    Refusal::accepted(LINKED.start(image, store, &mut machine.words))?;
     Ok(machine)
 }
 
@@ -75,14 +80,14 @@ pub fn start(image: &[u8], store: &mut [u16]) -> Result<Machine, Refusal> {
 pub fn run(
     machine: &mut Machine,
     image: &[u8],
-    map: &[u8],
+    map: &[u32],
     store: &mut [u16],
     outputs: &mut [u16],
     inputs: &[u16],
     n: u32,
 ) -> Result<Ran, Refusal> {
     let mut answer = [0; ANSWER_NUMBERS];
-    let number = c::run(
+    let number = LINKED.run(
         &mut machine.words,
         image,
         map,
@@ -102,7 +107,7 @@ pub fn run(
 #[derive(Clone, Debug)]
 pub struct Cabinet {
     image: Vec<u8>,
-    map: Vec<u8>,
+    map: Vec<u32>,
     store: Vec<u16>,
     outputs: [u16; CHANNELS],
     machine: Machine,
@@ -150,8 +155,8 @@ impl Cabinet {
         &self.store
     }
 
-    /// Load's marks, one byte an image byte: the depth plus 17 times the results of the procedure, FF hex where unmarked.
-    pub fn map(&self) -> &[u8] {
+    /// Load's map, one entry an image byte: a [`Mark`], or [`UNMARKED`].
+    pub fn map(&self) -> &[u32] {
         &self.map
     }
 }

@@ -1,7 +1,9 @@
 //! The wrapper over the proved library: the paper's marked cases, every refusal, and the buffers that a refusal leaves alone.
 
+use cembuxola::c::LINKED;
 use cembuxola::{
-    c, load, run, start, Cabinet, Machine, Place, Ran, Refusal, Stop, CHANNELS, MACHINE_WORDS,
+    load, run, start, Cabinet, Machine, Place, Ran, Refusal, Stop, CHANNELS, MACHINE_WORDS,
+    UNMARKED,
 };
 
 /// "Image (hex) 01 00 00 04 02 07 A1 EC".
@@ -26,7 +28,8 @@ fn stopped(code: &[u8], n: u32) -> (Ran, Cabinet) {
 #[test]
 fn the_papers_reading() {
     let mut cabinet = Cabinet::new(&READING, 4096).unwrap();
-    assert_eq!(cabinet.map(), [255, 255, 255, 255, 0, 1, 2, 0]);
+    assert_eq!(cabinet.map()[..4], [UNMARKED; 4]);
+    assert_eq!(cabinet.map()[4..], [0, 1, 2, 0]);
     let ran = cabinet.run(&INPUTS, 1000);
     assert_eq!(
         (ran.stop, ran.stop.number(), ran.count),
@@ -93,12 +96,12 @@ fn what_a_refused_load_leaves() {
     assert_eq!(load(&image(&[2]), &mut map[..4]), Err(Refusal::MapShort));
     assert_eq!(map, [9; 10]);
     assert_eq!(load(&image(&[2]), &mut map), Err(not_whole(0, 0)));
-    assert_eq!(map, [255, 255, 255, 255, 255, 9, 9, 9, 9, 9]);
+    assert_eq!((&map[..5], &map[5..]), (&[UNMARKED; 5][..], &[9; 5][..]));
     assert_eq!(
         load(&image(&[0xA1, 0xEC]), &mut map),
         Err(Refusal::NoDepths)
     );
-    assert_eq!(map, [255, 255, 255, 255, 255, 255, 9, 9, 9, 9]);
+    assert_eq!((&map[..6], &map[6..]), (&[UNMARKED; 6][..], &[9; 4][..]));
 }
 
 /// What load answers to an image, with a map of its length.
@@ -211,7 +214,7 @@ fn the_place_is_zeros_but_for_13() {
     ];
     for (image, map, expected) in cases {
         let mut place = [0xABCD, 0x1234];
-        let number = c::load(image, &mut vec![9; map], &mut place);
+        let number = LINKED.load(image, &mut vec![9; map], &mut place);
         assert_eq!([number, place[0], place[1]], expected);
     }
 }
@@ -227,7 +230,7 @@ fn a_place_of_another_length_is_answered_before_all_else() {
     for image in images {
         for words in [0, 1, 3] {
             let (mut map, mut place) = ([9; 10], vec![0xABCD; words]);
-            assert_eq!(c::load(image, &mut map, &mut place), 20);
+            assert_eq!(LINKED.load(image, &mut map, &mut place), 20);
             assert_eq!((map, place), ([9; 10], vec![0xABCD; words]));
         }
     }
@@ -253,11 +256,9 @@ fn refusals_of_run_leave_everything() {
     load(&READING, &mut map).unwrap();
     let mut unfit = map;
     unfit[0] = 0;
-    // depths in a procedure of 5 results, which there is not
-    let mut five = map;
-    for byte in &mut five[4..] {
-        *byte += 85;
-    }
+    let with = |bits: u32| map.map(|entry| entry | bits);
+    // depths in a procedure of 5 results, which there is not; a list at RTN; a bit that is not used
+    let [five, listed, unused] = [5 << 5, 1 << 8, 1 << 11].map(with);
     // no position of depth 1 is marked at 0
     let mut broken = Machine {
         words: [0; MACHINE_WORDS],
@@ -267,6 +268,8 @@ fn refusals_of_run_leave_everything() {
         (machine, &map[..7], 167, 16, Refusal::MapShort),
         (machine, &unfit[..], 166, 16, Refusal::MapUnfit),
         (machine, &five[..], 166, 16, Refusal::MapUnfit),
+        (machine, &listed[..], 166, 16, Refusal::MapUnfit),
+        (machine, &unused[..], 166, 16, Refusal::MapUnfit),
         (machine, &map[..], 166, 15, Refusal::StoreSize),
         (broken, &map[..], 167, 15, Refusal::ChannelCount),
         (broken, &map[..], 167, 16, Refusal::NotAMachine),
@@ -305,11 +308,93 @@ fn a_return_carries_what_was_promised() {
         .concat()
     };
     let mut cabinet = Cabinet::new(&image(2), 4096).unwrap();
-    assert_eq!(cabinet.map()[13..], [0, 2, 255, 34, 35, 36]);
+    let two = 2 << 5;
+    assert_eq!(cabinet.map()[13..], [0, 2, UNMARKED, two, two + 1, two + 2]);
     assert_eq!(cabinet.run(&INPUTS, 9).stop, Stop::Program(7));
     for results in [0, 1, 3, 4] {
         let refusal = Cabinet::new(&image(results), 4096).unwrap_err();
         assert_eq!(refusal, Refusal::NoDepths);
+    }
+}
+
+#[test]
+fn words_are_saved_and_restored() {
+    // 1 and 2 are saved, and restored below 3
+    let (ran, cabinet) = stopped(&[1, 2, 0xB2, 3, 0xB0, 0xC4], 9);
+    assert_eq!((ran.stop, ran.count), (Stop::Program(3), 5));
+    assert_eq!(cabinet.machine().stack(), [1, 2, 3]);
+    let saved = 2 << 11 | 1 << 8;
+    assert_eq!(cabinet.map()[4..], [0, 1, 2, saved, saved + 1, 3]);
+    // the top one first, then their count
+    let s = usize::from(cabinet.machine().words[5]);
+    assert_eq!(cabinet.store()[s..s + 3], [2, 1, 2]);
+}
+
+#[test]
+fn saved_depths_fit() {
+    let sixteen = [&[0; 16][..], &[0xB2, 1, 0xB0, 0xC4]].concat();
+    let five = [&[0xB2; 5][..], &[1, 0xC4]].concat();
+    let accepted: [&[u8]; 4] = [
+        &[0xB2, 1, 0xB0, 0xC4],                  // no word is saved,
+        &sixteen[1..],                           // 15 are,
+        &[&sixteen[..18], &[0xC4][..]].concat(), // 16 are, and not restored
+        &five[1..],                              // four times
+    ];
+    for code in accepted {
+        assert_eq!(loaded(&image(code)), Ok(()), "{code:x?}");
+    }
+    let unfit: [&[u8]; 8] = [
+        &[0xB0, 0xC4],             // nothing was saved, and no result is there,
+        &[1, 0xB0, 0xC4],          // or one
+        &[0xB2, 0xB0, 0xC4],       // no result
+        &[0xB2, 1, 2, 0xB0, 0xC4], // a word too many
+        &sixteen,                  // 16 words and the result
+        &five,                     // a fifth time
+        &[0xB2, 0xEC],             // a return before they are restored
+        &[0xB2, 0x1D, 0x02],       // one position with two lists
+    ];
+    for code in unfit {
+        assert_eq!(loaded(&image(code)), Err(Refusal::NoDepths), "{code:x?}");
+    }
+}
+
+#[test]
+fn saved_words_are_tested_as_they_are_restored() {
+    let image = image(&[1, 2, 0xB2, 3, 0xB0, 0xC4]);
+    let mut map = vec![0; image.len()];
+    load(&image, &mut map).unwrap();
+    let mut store = [0; 4096];
+    let first = start(&image, &mut store).unwrap();
+    let steps = |machine: &mut Machine, store: &mut [u16], n: u32| {
+        let outputs = &mut [0; CHANNELS];
+        let ran = run(machine, &image, &map, store, outputs, &INPUTS, n).unwrap();
+        (ran.stop, ran.count)
+    };
+    // room for two words and their count, and one too few
+    for (room, expected) in [(3, (Stop::Spent, 3)), (2, (Stop::StackLimit, 2))] {
+        let mut machine = first;
+        machine.words[6] = first.words[5] + room;
+        assert_eq!(steps(&mut machine, &mut store, 3), expected);
+    }
+    let mut saved = first;
+    assert_eq!(steps(&mut saved, &mut store, 4), (Stop::Spent, 4));
+    let s = saved.words[5];
+    assert_eq!(s, first.words[5] + 3);
+    // another S, where another count stands or too few words below it
+    for (s, count, expected) in [
+        (s, 2, (Stop::Program(3), 1)),
+        (s, 1, (Stop::ReturnMark, 0)),
+        (s, 3, (Stop::ReturnMark, 0)),
+        (3, 2, (Stop::Program(3), 1)),
+        (2, 2, (Stop::ReturnMark, 0)),
+        (0, 2, (Stop::ReturnMark, 0)),
+    ] {
+        let (mut machine, mut store) = (saved, store);
+        machine.words[5] = s;
+        if let Some(place) = s.checked_sub(1) {
+            store[usize::from(place)] = count;
+        }
+        assert_eq!(steps(&mut machine, &mut store, 9), expected, "{s} {count}");
     }
 }
 

@@ -4,6 +4,7 @@ use crate::depths;
 use crate::exec::{self, Lent, Observer};
 use crate::image::{self, Program};
 use crate::machine::{self, Machine};
+use crate::mark::UNMARKED;
 use crate::number;
 use crate::walk;
 
@@ -43,9 +44,9 @@ pub struct RunAnswer {
 }
 
 /// Tests an image and fills the map: 0, or a refusal 1 to 7, then 13, then 8.
-/// Refusals 13 and 8 leave the map "FF over the image's length"; the others
+/// Refusals 13 and 8 leave it all ones over the image's length; the others
 /// leave it alone.
-pub fn load(image: &[u8], map: &mut [u8]) -> LoadAnswer {
+pub fn load(image: &[u8], map: &mut [u32]) -> LoadAnswer {
     let program = match image::parse(image) {
         Ok(program) => program,
         Err(refusal) => return LoadAnswer::without_place(refusal),
@@ -54,7 +55,7 @@ pub fn load(image: &[u8], map: &mut [u8]) -> LoadAnswer {
         return LoadAnswer::without_place(number::MAP_SHORT);
     }
     if let Some(fault) = walk::first_fault(&program, image) {
-        map[..image.len()].fill(depths::UNMARKED);
+        map[..image.len()].fill(UNMARKED);
         return LoadAnswer {
             number: number::NOT_WHOLE,
             module: fault.module as u8,
@@ -81,7 +82,7 @@ pub fn start(image: &[u8], store: &mut [u16]) -> (u8, Machine) {
 pub fn run(
     machine: Machine,
     image: &[u8],
-    map: &[u8],
+    map: &[u32],
     store: &mut [u16],
     outputs: &mut [u16],
     inputs: &[u16],
@@ -100,7 +101,7 @@ pub fn run(
 /// Buffers as the caller has them, of any length.
 pub struct Buffers<'a> {
     pub image: &'a [u8],
-    pub map: &'a [u8],
+    pub map: &'a [u32],
     pub store: &'a mut [u16],
     pub outputs: &'a mut [u16],
     pub inputs: &'a [u16],
@@ -160,13 +161,15 @@ fn admit<'a>(machine: &Machine, buffers: Buffers<'a>) -> Result<(Program, Lent<'
 }
 
 /// "A whole reading": load, start and run with "W = 4,096, inputs 0, outputs
-/// first 0, n = 1,000". The text ends in a line feed.
+/// first 0, n = 1,000". A.5: "The desk program's map has 16,384 entries". The
+/// text ends in a line feed.
 pub fn desk(image: &[u8]) -> String {
     const WORDS: usize = 4_096;
     const STEPS: u32 = 1_000;
+    const ENTRIES: usize = 16_384;
     let refused = |refusal: u8| format!("refused {refusal}\n");
 
-    let mut map = vec![depths::UNMARKED; image.len()];
+    let mut map = vec![UNMARKED; ENTRIES];
     let refusal = load(image, &mut map).number;
     if refusal != number::ACCEPTED {
         return refused(refusal);

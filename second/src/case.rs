@@ -1,7 +1,7 @@
 //! Cases to be replayed by another program, and their file.
 //!
 //! A case is an image with its buffers and a list of runs. It is replayed so:
-//! a map of the length given is filled with one byte and handed to load; a
+//! a map of the length given is filled with one entry and handed to load; a
 //! store of the length given is filled with one word and handed to start; the
 //! outputs are set; then every run follows, whatever load and start answered.
 //! Before a run its patches are written into the map and into the store. The
@@ -14,10 +14,10 @@
 //! high word first. Each list is preceded by its length.
 //!
 //! ```text
-//! file:    4D43 hex, 2, long number of cases, the cases
+//! file:    4D43 hex, 3, long number of cases, the cases
 //! case:    long image length, image bytes (two a word, the first one high;
 //!            an odd last one is followed by a byte 0)
-//!          long map length, byte that fills the map
+//!          long map length, long entry that fills the map
 //!          long store length, word that fills the store
 //!          number of outputs, outputs
 //!          number of runs, the runs
@@ -25,7 +25,7 @@
 //!          0, or 1 and the number of inputs, inputs (else those of the run
 //!            before; the first run's are none)
 //!          0, or 1 and a machine
-//!          number of map patches, each: offset, byte
+//!          number of map patches, each: offset, long entry
 //!          number of store patches, each: address, word
 //! machine: module (0 to 255), pc, depth (0 to 255), P, L, S, H, M,
 //!            number of stack words, stack words, the bottom first (the
@@ -42,9 +42,9 @@ use crate::machine::Machine;
 use std::fmt;
 
 const MAGIC: u16 = 0x4D43;
-const VERSION: u16 = 2;
+const VERSION: u16 = 3;
 
-/// The most bytes or words of an image, a map or a store.
+/// The most bytes, entries or words of an image, a map or a store.
 pub const LONGEST: usize = 65_600;
 /// The most inputs or outputs.
 pub const MOST_CHANNELS: usize = 32;
@@ -53,7 +53,7 @@ pub const MOST_CHANNELS: usize = 32;
 pub struct Case {
     pub image: Vec<u8>,
     pub map_length: usize,
-    pub map_fill: u8,
+    pub map_fill: u32,
     pub store_length: usize,
     pub store_fill: u16,
     pub outputs: Vec<u16>,
@@ -65,7 +65,7 @@ pub struct CaseRun {
     pub budget: u32,
     pub inputs: Vec<u16>,
     pub machine: Option<Machine>,
-    pub map_patches: Vec<(u16, u8)>,
+    pub map_patches: Vec<(u16, u32)>,
     pub store_patches: Vec<(u16, u16)>,
 }
 
@@ -94,7 +94,7 @@ impl fmt::Display for Checksum {
 pub struct Outcome {
     pub load: LoadAnswer,
     /// The whole map after load.
-    pub map: Vec<u8>,
+    pub map: Vec<u32>,
     pub start: u8,
     /// Of the whole store after start.
     pub store: Checksum,
@@ -130,12 +130,8 @@ pub fn replay<O: Observer>(case: &Case, observer: &mut O) -> Outcome {
     let mut machine = first_machine;
     let mut outputs = case.outputs.clone();
     for run in &case.runs {
-        for &(offset, byte) in &run.map_patches {
-            map[usize::from(offset)] = byte;
-        }
-        for &(address, word) in &run.store_patches {
-            store[usize::from(address)] = word;
-        }
+        write_patches(&mut map, &run.map_patches);
+        write_patches(&mut store, &run.store_patches);
         let buffers = Buffers {
             image,
             map: &map,
@@ -154,6 +150,26 @@ pub fn replay<O: Observer>(case: &Case, observer: &mut O) -> Outcome {
         });
     }
     outcome
+}
+
+/// Hands each run of a case to `see`, with what came of it and the map that it
+/// was lent.
+pub fn each_run(
+    case: &Case,
+    outcome: &Outcome,
+    mut see: impl FnMut(&CaseRun, &RunOutcome, &[u32]),
+) {
+    let mut map = outcome.map.clone();
+    for (run, outcome) in case.runs.iter().zip(&outcome.runs) {
+        write_patches(&mut map, &run.map_patches);
+        see(run, outcome, &map);
+    }
+}
+
+fn write_patches<T: Copy>(buffer: &mut [T], patches: &[(u16, T)]) {
+    for &(place, value) in patches {
+        buffer[usize::from(place)] = value;
+    }
 }
 
 /// The machine's registers in the order of the file.
@@ -186,12 +202,12 @@ impl fmt::Display for MachineText<'_> {
     }
 }
 
-/// Bytes in hex, two digits each.
-struct Hex<'a>(&'a [u8]);
+/// Entries in hex, eight digits each.
+struct Hex<'a>(&'a [u32]);
 
 impl fmt::Display for Hex<'_> {
     fn fmt(&self, f: &mut fmt::Formatter) -> fmt::Result {
-        self.0.iter().try_for_each(|byte| write!(f, "{byte:02x}"))
+        self.0.iter().try_for_each(|entry| write!(f, "{entry:08x}"))
     }
 }
 
@@ -246,7 +262,7 @@ pub fn encode(cases: &[Case]) -> Vec<u8> {
         out.0.extend(&case.image);
         out.0.resize(out.0.len().next_multiple_of(2), 0);
         out.long(case.map_length as u32);
-        out.word(u16::from(case.map_fill));
+        out.long(case.map_fill);
         out.long(case.store_length as u32);
         out.word(case.store_fill);
         out.list(&case.outputs);
@@ -265,9 +281,9 @@ pub fn encode(cases: &[Case]) -> Vec<u8> {
                 out.list(stack(machine));
             }
             out.word(run.map_patches.len() as u16);
-            for &(offset, byte) in &run.map_patches {
+            for &(offset, entry) in &run.map_patches {
                 out.word(offset);
-                out.word(u16::from(byte));
+                out.long(entry);
             }
             out.word(run.store_patches.len() as u16);
             for &(address, word) in &run.store_patches {
@@ -300,7 +316,7 @@ impl Output {
 pub fn decode(file: &[u8]) -> Result<Vec<Case>, String> {
     let mut input = Input { file, position: 0 };
     if input.word()? != MAGIC || input.word()? != VERSION {
-        return Err("this is no file of cases, version 2".into());
+        return Err(format!("this is no file of cases, version {VERSION}"));
     }
     let count = input.long()?;
     let cases: Result<Vec<Case>, String> = (0..count).map(|_| input.case()).collect();
@@ -368,7 +384,7 @@ impl<'a> Input<'a> {
         let mut case = Case {
             image: padded[..image_length].to_vec(),
             map_length: self.length()?,
-            map_fill: self.byte_in_word()?,
+            map_fill: self.long()? as u32,
             store_length: self.length()?,
             store_fill: self.word()?,
             outputs: self.list()?,
@@ -397,7 +413,7 @@ impl<'a> Input<'a> {
         for _ in 0..self.word()? {
             let offset = self.word()?;
             self.limited(usize::from(offset) + 1, case.map_length)?;
-            run.map_patches.push((offset, self.byte_in_word()?));
+            run.map_patches.push((offset, self.long()? as u32));
         }
         for _ in 0..self.word()? {
             let address = self.word()?;

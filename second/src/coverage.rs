@@ -1,15 +1,17 @@
 //! What generated cases reach: opcodes, traps of opcodes, refusals, what A.2
-//! makes of result counts, what A.3 makes of code that is not whole, and what
-//! collides in transfers.
+//! makes of result counts, what A.3 makes of code that is not whole, what
+//! collides in transfers, and what A.5 makes of saved depths.
 
 use crate::case::{replay, Case};
 use crate::exec::Observer;
 use crate::image::parse;
+use crate::lent::LentMaps;
 use crate::machine::Machine;
 use crate::number::*;
 use crate::opcode::{self, row, PAIRS};
 use crate::pair::first_address;
 use crate::results::Results;
+use crate::saved::Expressions;
 use crate::transfers::Transfers;
 use crate::whole::Whole;
 use std::fmt::Write;
@@ -29,6 +31,8 @@ pub struct Coverage {
     results: Results,
     whole: Whole,
     transfers: Transfers,
+    expressions: Expressions,
+    lent_maps: LentMaps,
     cases: u64,
 }
 
@@ -84,6 +88,8 @@ fn possible_stops(opcode: u8) -> &'static [u8] {
         0o241 => &[CHANNEL],
         0o245 | 0o305 | 0o306 => &[CHECK],
         0o256 => &[ADDRESS, PROCESS],
+        0o260 => &[RETURN_MARK],
+        0o262 => &[STACK_LIMIT],
         0o273 | 0o274 => &[DIVISOR],
         0o304 => &[PROGRAM],
         0o316 | 0o317 | 0o330..=0o332 => &[SIGNED_RANGE],
@@ -109,6 +115,8 @@ impl Coverage {
             results: Results::default(),
             whole: Whole::default(),
             transfers: Transfers::default(),
+            expressions: Expressions::default(),
+            lent_maps: LentMaps::default(),
             cases: 0,
         };
         cases.for_each(|case| coverage.add(&case));
@@ -123,6 +131,8 @@ impl Coverage {
         self.results.add(case, &outcome);
         self.whole.add(case, &outcome);
         self.transfers.add(case, &outcome);
+        self.expressions.add(case, &outcome);
+        self.lent_maps.add(case, &outcome);
         for run in outcome.runs {
             let answer = run.answer;
             match answer.number {
@@ -191,11 +201,13 @@ impl Coverage {
         faults
     }
 
-    /// What was reached of A.2, of A.3 and of transfers.
+    /// What was reached of A.2, of A.3, of transfers and of A.5.
     fn kinds(&self) -> impl Iterator<Item = Line> {
         let mut lines = self.results.lines();
         lines.extend(self.whole.lines());
         lines.extend(self.transfers.lines());
+        lines.extend(self.expressions.lines());
+        lines.extend(self.lent_maps.lines());
         lines.into_iter()
     }
 

@@ -1,57 +1,19 @@
 //! "Depths": the rules of a fitting assignment, load's fewest one, and run's
 //! test of a map lent by anybody. Since A.2 "a return must carry what the
-//! procedure promised".
+//! procedure promised", and since A.5 a position has a list of saved depths.
 
-use crate::image::{Procedure, Program};
+use crate::image::Program;
+use crate::mark::{Mark, Saved, MOST, UNMARKED};
 use crate::opcode::{self, *};
 
-/// "FF hex where unmarked"
-pub const UNMARKED: u8 = 0xFF;
-
-/// The operand stack has 16 words.
-pub const MOST: u8 = 16;
-
-/// A procedure has at most 4 results.
-pub const MOST_RESULTS: u8 = 4;
-
-/// A.2: "Each marked position therefore carries a result count of 0 to 4
-/// besides its depth".
-#[derive(Clone, Copy, Debug, PartialEq, Eq)]
-pub struct Mark {
-    pub depth: u8,
-    pub results: u8,
-}
-
-impl Mark {
-    /// An entry is marked "with its parameter count", and with the result
-    /// count of its procedure.
-    pub fn entry(procedure: &Procedure) -> Mark {
-        Mark {
-            depth: procedure.parameters,
-            results: procedure.results,
-        }
-    }
-
-    /// "A map byte becomes depth + 17 × results".
-    pub fn encode(self) -> u8 {
-        self.depth + (MOST + 1) * self.results
-    }
-
-    /// The mark that a map byte stands for: 0 to 84 do. FF is unmarked, and 85
-    /// to 254 are in no map that fits.
-    pub fn decode(byte: u8) -> Option<Mark> {
-        let mark = Mark {
-            depth: byte % (MOST + 1),
-            results: byte / (MOST + 1),
-        };
-        (mark.results <= MOST_RESULTS).then_some(mark)
-    }
-}
+/// "LODFW removes the front one, which must be at most 15".
+pub const MOST_RESTORED: u8 = 15;
 
 /// The rules of one marked position, for load and for run alike: it "holds a
 /// listed opcode whose operands lie in the code, takes no more than the depth,
 /// leaves at most 16, and every successor lies in the code, marked with the
-/// resulting depth". A.2: "a successor has its predecessor's" result count.
+/// resulting depth". A.2: "a successor has its predecessor's" result count. A.5:
+/// "Every other instruction passes its list on, a call to the next position."
 /// `follow` is told each successor that lies in the code, with the mark that it
 /// must have, and says whether it can have it.
 pub fn position_fits(
@@ -73,34 +35,58 @@ pub fn position_fits(
     if left > MOST {
         return false;
     }
-    let mut successor =
-        |target: usize, depth: u8| target < code.len() && follow(target, Mark { depth, ..mark });
+    let mut successor = |target: usize, mark: Mark| target < code.len() && follow(target, mark);
+    let with = |depth: u8| Mark { depth, ..mark };
     let byte = |offset: usize| usize::from(code[position + offset]);
     let target = || jump_target(code, position);
     // "At a call the depth (after CI's link) equals the callee's parameters,
     // and the next position has its results" as its depth, and the caller's own
     // result count. The callee must exist.
     let mut call = |callee_module: usize, number: usize| {
-        program
-            .procedure(callee_module, number)
-            .is_some_and(|callee| callee.parameters == rest && successor(next, callee.results))
+        let callee = program.procedure(callee_module, number);
+        let callee = callee.filter(|callee| callee.parameters == rest);
+        callee.is_some_and(|callee| successor(next, with(callee.results)))
     };
     match code_byte {
         // "RTN and TRAP have no successor." A.2: "RTN needs a depth equal to
-        // it", the result count.
-        RTN => mark.depth == mark.results,
+        // it", the result count. A.5: "RTN needs none" saved.
+        RTN => mark.depth == mark.results && mark.saved == Saved::NONE,
         TRAP => true,
+        STORE => stored(mark).is_some_and(|mark| successor(next, mark)),
+        LODFW => restored(mark).is_some_and(|mark| successor(next, mark)),
         CX => call(byte(1), byte(2)),
         CI | CL => call(module, byte(1)),
         CL1..=CL15 => call(module, usize::from(code_byte - CL)),
-        JP | JPF | JPB => successor(target(), left),
-        JPC | JPFC | JPBC => successor(target(), left) && successor(next, left),
+        JP | JPF | JPB => successor(target(), with(left)),
+        JPC | JPFC | JPBC => successor(target(), with(left)) && successor(next, with(left)),
         // "1 left, which holds where they jump; else 0 are left"
-        ORJP | ANDJP => successor(target(), left) && successor(next, rest),
+        ORJP | ANDJP => successor(target(), with(left)) && successor(next, with(rest)),
         // "Module and procedure operands must exist."
-        LEA | LEW | LED | SEW | SED => byte(1) < program.modules.len() && successor(next, left),
-        _ => successor(next, left),
+        LEA | LEW | LED | SEW | SED if byte(1) >= program.modules.len() => false,
+        _ => successor(next, with(left)),
     }
+}
+
+/// Behind STORE: "STORE adds its depth to the front" and "The depth is then 0."
+/// None where four are saved already.
+fn stored(mark: Mark) -> Option<Mark> {
+    let saved = mark.saved.with(mark.depth)?;
+    Some(Mark {
+        depth: 0,
+        saved,
+        ..mark
+    })
+}
+
+/// Behind LODFW, which "needs depth 1": the front depth and the result. None
+/// where nothing is saved, or 16 words, beside which the result finds no room.
+fn restored(mark: Mark) -> Option<Mark> {
+    let front = mark.saved.front().filter(|&front| front <= MOST_RESTORED)?;
+    (mark.depth == 1).then(|| Mark {
+        depth: front + 1,
+        saved: mark.saved.without_front(),
+        ..mark
+    })
 }
 
 /// "Jumps, from the operand's first byte"; a target below 0 becomes one past
@@ -120,8 +106,8 @@ pub fn jump_target(code: &[u8], position: usize) -> usize {
 
 /// Marks the fewest positions of an image, or none at all: false is refusal 8,
 /// where the code is whole. Writes every one of the map's first `image.len()`
-/// bytes and no other.
-pub fn assign(program: &Program, image: &[u8], map: &mut [u8]) -> bool {
+/// entries and no other.
+pub fn assign(program: &Program, image: &[u8], map: &mut [u32]) -> bool {
     let map = &mut map[..image.len()];
     map.fill(UNMARKED);
     let mut worklist = Vec::new();
@@ -150,13 +136,12 @@ fn assign_module(
     program: &Program,
     module: usize,
     code: &[u8],
-    part: &mut [u8],
+    part: &mut [u32],
     worklist: &mut Vec<(usize, Mark)>,
 ) -> bool {
     worklist.clear();
-    for procedure in program.procedures(module) {
-        let entry = usize::from(procedure.entry);
-        if !mark_once(part, worklist, entry, Mark::entry(procedure)) {
+    for (entry, mark) in entry_marks(program, module) {
+        if !mark_once(part, worklist, entry, mark) {
             return false;
         }
     }
@@ -172,7 +157,7 @@ fn assign_module(
 /// Marks a position, and lists it the first time; false where it has another
 /// mark. A.2: "Code shared by procedures with other counts does not fit."
 fn mark_once(
-    part: &mut [u8],
+    part: &mut [u32],
     worklist: &mut Vec<(usize, Mark)>,
     position: usize,
     mark: Mark,
@@ -184,14 +169,46 @@ fn mark_once(
     part[position] == mark.encode()
 }
 
+/// The marks of a module's entries.
+pub fn entry_marks(program: &Program, module: usize) -> Vec<(usize, Mark)> {
+    let procedures = program.procedures(module).iter();
+    procedures
+        .map(|procedure| (usize::from(procedure.entry), Mark::entry(procedure)))
+        .collect()
+}
+
+/// What the rules make of a module's code from these marks on, whether it fits
+/// or not: each position has the first mark that it gets.
+pub fn first_marks(
+    program: &Program,
+    module: usize,
+    code: &[u8],
+    from: &[(usize, Mark)],
+) -> Vec<u32> {
+    let mut part = vec![UNMARKED; code.len()];
+    let mut worklist = Vec::new();
+    for &(position, mark) in from {
+        mark_once(&mut part, &mut worklist, position, mark);
+    }
+    while let Some((position, mark)) = worklist.pop() {
+        let follow = |target: usize, mark: Mark| {
+            mark_once(&mut part, &mut worklist, target, mark);
+            true
+        };
+        position_fits(program, module, code, position, mark, follow);
+    }
+    part
+}
+
 /// "Run believes no map: it tests one lent by anybody against these rules.
-/// There, an image byte outside the code must have FF, and marks beyond the
-/// fewest are allowed." Bytes past the image are not looked at.
-pub fn fits(program: &Program, image: &[u8], map: &[u8]) -> bool {
+/// There, an image byte outside the code must have" all ones since A.5, "and
+/// marks beyond the fewest are allowed." Entries past the image are not looked
+/// at.
+pub fn fits(program: &Program, image: &[u8], map: &[u32]) -> bool {
     let mut outside = 0;
     for (index, module) in program.modules.iter().enumerate() {
         let range = module.code_range();
-        if map[outside..range.start].iter().any(|&b| b != UNMARKED) {
+        if map[outside..range.start].iter().any(|&e| e != UNMARKED) {
             return false;
         }
         outside = range.end;
@@ -203,15 +220,13 @@ pub fn fits(program: &Program, image: &[u8], map: &[u8]) -> bool {
     true
 }
 
-fn module_fits(program: &Program, module: usize, code: &[u8], part: &[u8]) -> bool {
+fn module_fits(program: &Program, module: usize, code: &[u8], part: &[u32]) -> bool {
     let has = |position: usize, mark: Mark| part[position] == mark.encode();
-    let entries_fit = program
-        .procedures(module)
-        .iter()
-        .all(|procedure| has(usize::from(procedure.entry), Mark::entry(procedure)));
-    let marked_fit = |(position, &byte): (usize, &u8)| {
-        byte == UNMARKED
-            || Mark::decode(byte)
+    let entries = entry_marks(program, module);
+    let entries_fit = entries.into_iter().all(|(entry, mark)| has(entry, mark));
+    let marked_fit = |(position, &entry): (usize, &u32)| {
+        entry == UNMARKED
+            || Mark::decode(entry)
                 .is_some_and(|mark| position_fits(program, module, code, position, mark, has))
     };
     entries_fit && part.iter().enumerate().all(marked_fit)

@@ -13,7 +13,7 @@ use crate::number;
 /// What a run is lent. The slices have passed run's tests.
 pub struct Lent<'a> {
     pub image: &'a [u8],
-    pub map: &'a [u8],
+    pub map: &'a [u32],
     pub store: &'a mut [u16],
     pub outputs: &'a mut [u16; 16],
     pub inputs: &'a [u16; 16],
@@ -594,6 +594,38 @@ pub fn execute<O: Observer>(
                 l = dynamic_link;
             }
 
+            // A.5: "STORE writes the expression stack from S up, top first, then
+            // its count, and raises S; beyond H it is trap 33. The depth is
+            // then 0."
+            0o262 => {
+                if usize::from(s) + depth + 1 > usize::from(h) {
+                    break (number::STACK_LIMIT, 0);
+                }
+                s = save(store, s, &stack[..depth]);
+                depth = 0;
+                pc += 1;
+            }
+            // "LODFW [...] takes the result, lowers S past the count and the
+            // words, restores them and puts the result on top. [...] At run
+            // time a count other than the recorded front, or fewer words below
+            // S, is trap 34." The front is the one at this position.
+            0o260 => {
+                let mark = program.mark(map, usize::from(module), pc as u16);
+                let front = mark.and_then(|mark| mark.saved.front()).map(usize::from);
+                let front = front.expect("the map fits");
+                let top = usize::from(s);
+                if top < front + 1 || usize::from(store[top - 1]) != front {
+                    break (number::RETURN_MARK, 0);
+                }
+                let result = word!(1);
+                let lowest = top - 1 - front;
+                copy_reversed(&mut stack[..front], &store[lowest..top - 1]);
+                s = lowest as u16;
+                depth = front;
+                put!(result);
+                pc += 1;
+            }
+
             0o256 => match transfer(program, map, store, &gather!(), byte!(1) != 0) {
                 Err(trap) => break (trap, 0),
                 Ok(resumed) => {
@@ -642,6 +674,20 @@ fn double(high: u16, low: u16) -> u32 {
     u32::from(high) << 16 | u32::from(low)
 }
 
+/// Writes a stack "from S up, top first, then its count"; answers the raised S.
+fn save(store: &mut [u16], s: u16, stack: &[u16]) -> u16 {
+    let count = usize::from(s) + stack.len();
+    copy_reversed(&mut store[usize::from(s)..count], stack);
+    store[count] = stack.len() as u16;
+    count as u16 + 1
+}
+
+/// Fills words with as many others, the last of these first.
+fn copy_reversed(to: &mut [u16], from: &[u16]) {
+    let words = from.iter().rev();
+    to.iter_mut().zip(words).for_each(|(to, &word)| *to = word);
+}
+
 /// "from L, b times the word at that address"
 fn follow_links(store: &[u16], l: u16, b: u8) -> Option<u16> {
     let mut address = l;
@@ -653,7 +699,7 @@ fn follow_links(store: &[u16], l: u16, b: u8) -> Option<u16> {
 
 /// The module whose base is this word, if the position is marked there with
 /// this depth: for returns and transfers.
-fn marked(program: &Program, map: &[u8], base: u16, position: u16, depth: u8) -> Option<u8> {
+fn marked(program: &Program, map: &[u32], base: u16, position: u16, depth: u8) -> Option<u8> {
     let module = program.module_at(base)?;
     program
         .is_marked(map, module, position, depth)
@@ -665,7 +711,7 @@ fn marked(program: &Program, map: &[u8], base: u16, position: u16, depth: u8) ->
 #[cold]
 fn transfer(
     program: &Program,
-    map: &[u8],
+    map: &[u32],
     store: &mut [u16],
     machine: &Machine,
     change_mask: bool,
@@ -696,12 +742,7 @@ fn transfer(
     // "Then save: the remaining stack from S up, top first, then its count; S
     // raised past it; G, L, next position, M, S, H+24 to P..P+5. Word c = P;
     // P = q. [...] Colliding writes keep the last in this order."
-    for &word in saved.stack[..depth].iter().rev() {
-        store[usize::from(saved.s)] = word;
-        saved.s += 1;
-    }
-    store[usize::from(saved.s)] = depth as u16;
-    saved.s += 1;
+    saved.s = save(store, saved.s, &saved.stack[..depth]);
     let base = program.modules[usize::from(saved.module)].base as u16;
     let record = [
         base,
@@ -719,7 +760,7 @@ fn transfer(
 /// The process whose record is at q, or None for trap 35: "q+8 ≤ W; words q..
 /// are G, L, position, M, s, v; 24 ≤ v ≤ W; 1 ≤ s ≤ W; k = word s−1, k ≤ 16,
 /// k < s; s−1−k ≤ v−24; G a base, position marked k there".
-fn read_process(program: &Program, map: &[u8], store: &[u16], q: u16) -> Option<Machine> {
+fn read_process(program: &Program, map: &[u32], store: &[u16], q: u16) -> Option<Machine> {
     let record = store.get(usize::from(q)..usize::from(q) + Machine::RECORD)?;
     let &[g, l, position, m, s, v, ..] = record else {
         return None;
@@ -740,10 +781,7 @@ fn read_process(program: &Program, map: &[u8], store: &[u16], q: u16) -> Option<
     let module = marked(program, map, g, position, k as u8)?;
     // "S = s−1−k, H = v−24, the k words": the lowest is the top.
     let mut stack = [0; 16];
-    let words = &store[usize::from(lowest)..usize::from(s - 1)];
-    for (slot, &word) in stack.iter_mut().zip(words.iter().rev()) {
-        *slot = word;
-    }
+    copy_reversed(&mut stack, &store[usize::from(lowest)..usize::from(s - 1)]);
     Some(Machine {
         module,
         pc: position,

@@ -1,7 +1,7 @@
 //! The image: its parts in reading order, and refusals 1 to 6.
 
-use crate::depths::Mark;
 use crate::machine::Machine;
+use crate::mark::Mark;
 use crate::number;
 
 /// "entry position (word, below the code length), parameters (byte, 0 to 16),
@@ -72,7 +72,7 @@ impl Program {
 
     /// The mark of a position in a tested map. A position at or beyond the
     /// code's length has none.
-    pub fn mark(&self, map: &[u8], module: usize, position: u16) -> Option<Mark> {
+    pub fn mark(&self, map: &[u32], module: usize, position: u16) -> Option<Mark> {
         let module = self.modules.get(module)?;
         let part = &map[module.code_range()];
         Mark::decode(*part.get(usize::from(position))?)
@@ -80,7 +80,7 @@ impl Program {
 
     /// Whether a position is marked with this depth, for landings, restores and
     /// refusal 11. A.2: "A landing still compares the depth only."
-    pub fn is_marked(&self, map: &[u8], module: usize, position: u16, depth: u8) -> bool {
+    pub fn is_marked(&self, map: &[u32], module: usize, position: u16, depth: u8) -> bool {
         self.mark(map, module, position)
             .is_some_and(|mark| mark.depth == depth)
     }

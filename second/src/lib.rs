@@ -1,5 +1,5 @@
 //! A second interpreter of M-code, written from the paper and its change
-//! requests A.1 to A.3 alone, against which another engine is compared.
+//! requests A.1 to A.5 alone, against which another engine is compared.
 //!
 //! [`load`], [`start`] and [`run`] are the paper's calls, [`desk`] is its "A
 //! whole reading". Octal literals are the paper's opcodes, and quotations in
@@ -15,11 +15,14 @@ pub mod depths;
 pub mod exec;
 pub mod gen;
 pub mod image;
+pub mod lent;
 pub mod machine;
+pub mod mark;
 pub mod number;
 pub mod opcode;
 pub mod pair;
 pub mod results;
+pub mod saved;
 pub mod transfers;
 pub mod walk;
 pub mod whole;

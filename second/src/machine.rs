@@ -1,6 +1,7 @@
 //! The machine: its registers, what start sets, and what refusal 11 tests.
 
 use crate::image::Program;
+use crate::mark::Mark;
 
 /// The registers, the program counter and the operand stack. `stack[0]` is
 /// the bottom and `stack[depth - 1]` the top.
@@ -49,10 +50,15 @@ impl Machine {
         image[module.code_start + usize::from(self.pc)]
     }
 
+    /// The mark of the position at which it stands, in a tested map.
+    pub fn mark(&self, program: &Program, map: &[u32]) -> Option<Mark> {
+        program.mark(map, usize::from(self.module), self.pc)
+    }
+
     /// "A machine has a loaded module, a position marked with its depth,
     /// S ≤ H, H + 24 ≤ W, P + 8 ≤ W, and zeros above its depth." The map is
     /// one that fits, the store one that is accepted.
-    pub fn is_machine(&self, program: &Program, map: &[u8], words: usize) -> bool {
+    pub fn is_machine(&self, program: &Program, map: &[u32], words: usize) -> bool {
         program.is_marked(map, usize::from(self.module), self.pc, self.depth)
             && self.s <= self.h
             && usize::from(self.h) + usize::from(Machine::MARGIN) <= words

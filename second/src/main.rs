@@ -17,12 +17,14 @@ usage: second reading [FILE]
            print the desk's reading of an image, from FILE or standard input
        second map FILE
            print load's number; for 13 also the module, the position and the
-           cause; and if it accepts, the map in hex: a byte is
-           depth + 17 * results, or FF where unmarked
+           cause; and if it accepts, the map in hex, eight digits an entry:
+           bits 0 to 4 are the depth, 5 to 7 the results, 8 to 10 the number
+           of saved depths, and from bit 11 on each of these has five bits,
+           the front one first; all ones is unmarked
        second coverage [--small] [--seed N] [--cases N]
            replay generated cases and print what they reach; exit 1 if an
            opcode, a stop, a refusal, a collision of a transfer or a kind of
-           A.2 or A.3 is missing
+           A.2, A.3 or A.5 is missing
        second coverage CASES
            the same for the cases of a file
        second cases [--small] [--seed N] [--count N] OUT
@@ -110,8 +112,8 @@ fn print_map(image: &[u8]) -> Answer {
     let answer = load(image, &mut map);
     let mut text = format!("load {}{}\n", answer.number, fault_text(image));
     if answer.number == number::ACCEPTED {
-        for row in map.chunks(16) {
-            let row: Vec<String> = row.iter().map(|byte| format!("{byte:02X}")).collect();
+        for row in map.chunks(8) {
+            let row: Vec<String> = row.iter().map(|entry| format!("{entry:08x}")).collect();
             text += &row.join(" ");
             text.push('\n');
         }

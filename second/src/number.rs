@@ -15,7 +15,7 @@ pub const BYTES_AFTER: u8 = 4;
 pub const BIT_MAP: u8 = 5;
 /// "a field out of range"
 pub const FIELD_RANGE: u8 = 6;
-/// "map shorter than image"
+/// "map shorter than image"; since A.5 "7 counts entries"
 pub const MAP_SHORT: u8 = 7;
 /// "no depths fit"; since A.3 "that the code is whole and no depths fit"
 pub const NO_DEPTHS: u8 = 8;

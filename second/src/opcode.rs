@@ -49,6 +49,8 @@ pub const DSUB: u8 = 0o211;
 pub const SSD: u8 = 0o221;
 pub const SSD0: u8 = 0o222;
 pub const TRA: u8 = 0o256;
+pub const LODFW: u8 = 0o260;
+pub const STORE: u8 = 0o262;
 pub const TRAP: u8 = 0o304;
 pub const RTN: u8 = 0o354;
 pub const CX: u8 = 0o355;
@@ -192,6 +194,9 @@ const fn build() -> [Row; 256] {
     let t = set(t, 0o245, (1, 3, 1), &["UCHK"]);
     let t = set(t, 0o252, (1, 2, 1), &["ULSS", "ULEQ", "UGTR", "UGEQ"]);
     let t = set(t, 0o256, (2, 2, 0), &["TRA"]);
+    // They save and restore up to 16 words, which no row can say.
+    let t = set(t, 0o260, (1, 1, 1), &["LODFW"]);
+    let t = set(t, 0o262, (1, 0, 0), &["STORE"]);
     let t = set(t, 0o265, (1, 1, 2), &["COPT"]);
     let t = set(
         t,

@@ -1,11 +1,12 @@
 //! What cases reach of A.2: the result counts of marks, code that A.2 alone
-//! refuses, map bytes that are no marks, and landings.
+//! refuses, and landings.
 
-use crate::case::{Case, Outcome};
+use crate::case::{each_run, Case, Outcome};
 use crate::coverage::{named, Line};
-use crate::depths::{fits, position_fits, Mark, UNMARKED};
-use crate::image::{parse, Module, Procedure, Program};
+use crate::depths::{entry_marks, position_fits};
+use crate::image::{parse, Procedure, Program};
 use crate::machine::Machine;
+use crate::mark::{Mark, Saved};
 use crate::number::*;
 use crate::opcode::RTN;
 
@@ -16,8 +17,6 @@ pub struct Results {
     marks: [u64; 5],
     /// By [`NARROWER`].
     refused: [u64; 4],
-    /// Runs refused with 12 for no other reason than bytes 85 to 254.
-    no_marks: [u64; 1],
     /// Landings of runs of one step, by [`LANDING`].
     landings: [u64; 2],
 }
@@ -43,33 +42,24 @@ impl Results {
             return;
         };
         self.add_load(&program, &case.image, outcome);
-        let mut map = outcome.map.clone();
-        for (run, outcome_of_run) in case.runs.iter().zip(&outcome.runs) {
-            for &(offset, byte) in &run.map_patches {
-                map[usize::from(offset)] = byte;
-            }
-            let answer = &outcome_of_run.answer;
-            if answer.number == MAP_UNFIT {
-                let only = only_no_marks(&program, &case.image, &map, &outcome.map);
-                self.no_marks[0] += u64::from(only);
-            }
-            let from = &outcome_of_run.handed;
-            if answer.count == 1 && from.opcode(&program, &case.image) == RTN {
+        each_run(case, outcome, |_, run, map| {
+            let (from, to) = (&run.handed, &run.answer.machine);
+            if run.answer.count == 1 && from.opcode(&program, &case.image) == RTN {
                 let results = |machine: &Machine| {
-                    let mark = program.mark(&map, usize::from(machine.module), machine.pc);
+                    let mark = machine.mark(&program, map);
                     mark.map(|mark| mark.results)
                 };
-                self.landings[usize::from(results(from) != results(&answer.machine))] += 1;
+                self.landings[usize::from(results(from) != results(to))] += 1;
             }
-        }
+        });
     }
 
     /// The marks that load has made, or why it has made none.
     fn add_load(&mut self, program: &Program, image: &[u8], outcome: &Outcome) {
         match outcome.load.number {
             ACCEPTED => {
-                let bytes = outcome.map[..image.len()].iter().copied();
-                for mark in bytes.filter_map(Mark::decode) {
+                let entries = outcome.map[..image.len()].iter().copied();
+                for mark in entries.filter_map(Mark::decode) {
                     self.marks[usize::from(mark.results)] += 1;
                 }
             }
@@ -93,31 +83,17 @@ impl Results {
                 "images refused with 8 only for",
                 named(&NARROWER, &self.refused),
             ),
-            (
-                "runs refused with 12 only for",
-                named(&["bytes 85 to 254"], &self.no_marks),
-            ),
             ("landings of 354 on", named(&LANDING, &self.landings)),
         ]
     }
 }
 
-/// Whether a map that does not fit has bytes 85 to 254 in the code, and would
-/// fit with load's bytes there.
-fn only_no_marks(program: &Program, image: &[u8], map: &[u8], loaded: &[u8]) -> bool {
-    let mut mended = map.to_vec();
-    for position in program.modules.iter().flat_map(Module::code_range) {
-        if map[position] != UNMARKED && Mark::decode(map[position]).is_none() {
-            mended[position] = loaded[position];
-        }
-    }
-    mended != map && fits(program, image, &mended)
-}
-
 /// The index in [`NARROWER`] of an image that load refuses with 8; None where
 /// the rules without A.2 refuse it too.
 fn narrower(program: &Program, image: &[u8]) -> Option<usize> {
-    returns(program, image, |one, other| one.depth == other.depth)?;
+    returns(program, image, |one, other| {
+        (one.depth, one.saved) == (other.depth, other.saved)
+    })?;
     let one_too_many = |mark: &Mark| mark.depth == mark.results + 1;
     match returns(program, image, |one, other| one == other) {
         Some(marks) if marks.iter().any(one_too_many) => Some(0),
@@ -140,17 +116,14 @@ fn has_shared_entry(program: &Program) -> bool {
 }
 
 /// The marks of the returns that the entries reach, where a return fits at any
-/// depth; None where the code does not fit. `agree` says which marks can be
+/// depth, if nothing is saved; None where the code does not fit. `agree` says which marks can be
 /// those of one position.
 fn returns(program: &Program, image: &[u8], agree: fn(Mark, Mark) -> bool) -> Option<Vec<Mark>> {
     let mut returns = Vec::new();
     for (index, module) in program.modules.iter().enumerate() {
         let code = &image[module.code_range()];
         let mut marks = vec![None; code.len()];
-        let entries = program.procedures(index).iter();
-        let mut worklist: Vec<(usize, Mark)> = entries
-            .map(|procedure| (usize::from(procedure.entry), Mark::entry(procedure)))
-            .collect();
+        let mut worklist = entry_marks(program, index);
         while let Some((position, mark)) = worklist.pop() {
             match marks[position] {
                 Some(other) if agree(other, mark) => continue,
@@ -161,7 +134,7 @@ fn returns(program: &Program, image: &[u8], agree: fn(Mark, Mark) -> bool) -> Op
                 worklist.push((target, mark));
                 true
             };
-            if code[position] == RTN {
+            if code[position] == RTN && mark.saved == Saved::NONE {
                 returns.push(mark);
             } else if !position_fits(program, index, code, position, mark, follow) {
                 return None;

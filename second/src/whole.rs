@@ -3,8 +3,9 @@
 
 use crate::case::{Case, Outcome};
 use crate::coverage::{named, Line};
-use crate::depths::{has_depths, position_fits, Mark};
+use crate::depths::{entry_marks, first_marks, has_depths};
 use crate::image::{parse, Program};
+use crate::mark::UNMARKED;
 use crate::number::*;
 use crate::opcode::*;
 use crate::walk::{self, first_fault, lowest_fault, successors, Cause, Fault, Named, Way};
@@ -28,9 +29,9 @@ const NO_PROCEDURE: Cause = Cause::NoSuch(Named::Procedure);
 const NO_TARGET: Cause = Cause::SuccessorOutside(Way::Target);
 const NO_NEXT: Cause = Cause::SuccessorOutside(Way::Next);
 
-/// The causes that belong to a few opcodes, and these. CL1 stands for all calls
-/// from it up to CL15.
-const OPCODES: [(&str, Cause, &[u8]); 3] = [
+/// The causes that belong to a few opcodes, and these; and two of those that can
+/// lack a next position. CL1 stands for all calls from it up to CL15.
+const OPCODES: [(&str, Cause, &[u8]); 4] = [
     (
         "images refused with 13 for no such module at",
         NO_MODULE,
@@ -45,6 +46,11 @@ const OPCODES: [(&str, Cause, &[u8]); 3] = [
         "images refused with 13 for a target outside at",
         NO_TARGET,
         &[JPC, JP, JPFC, JPF, JPBC, JPB, ORJP, ANDJP],
+    ),
+    (
+        "images refused with 13 for a next position outside at",
+        NO_NEXT,
+        &[STORE, LODFW],
     ),
 ];
 
@@ -220,22 +226,8 @@ impl NotWhole<'_> {
     /// Whether the depth rules lead to it, if each position has the first mark
     /// that it gets.
     fn is_reached_with_depths(&self) -> bool {
-        let procedures = self.program.procedures(self.fault.module).iter();
-        let mut worklist: Vec<(usize, Mark)> = procedures
-            .map(|procedure| (usize::from(procedure.entry), Mark::entry(procedure)))
-            .collect();
-        let mut seen = vec![false; self.code.len()];
-        while let Some((position, mark)) = worklist.pop() {
-            if std::mem::replace(&mut seen[position], true) {
-                continue;
-            }
-            let follow = |target: usize, mark: Mark| {
-                worklist.push((target, mark));
-                true
-            };
-            let NotWhole { program, code, .. } = self;
-            position_fits(program, self.fault.module, code, position, mark, follow);
-        }
-        seen[self.fault.position]
+        let module = self.fault.module;
+        let entries = entry_marks(self.program, module);
+        first_marks(self.program, module, self.code, &entries)[self.fault.position] != UNMARKED
     }
 }

@@ -58,7 +58,7 @@ stop-depth image map inputs n x r k e = subst (λ (y : RunLeft). y .ending ≡ S
     go false f z =
         let (L, h, i) = accepted image map inputs x f in
         let g = good-of (parse image .program) map (length (x .store)) (x .machine) (h .machine) in
-        points image map (L .fit) (told image (L .parsed)) inputs (length (x .store)) n x (record { good = g; sized = refl; outs = h .outs }) .1 .good .at .few
+        points image map (L .fit) inputs (length (x .store)) n x (record { good = g; sized = refl; outs = h .outs }) .1 .good .at .few
 
 -- ---- modules that no image has
 

@@ -12,7 +12,7 @@ mod words;
 // The number of the refusal, 1 to 8 or 13, or 0, and the place: the module and the position at fault with 13, else 0 and 0. 20 where the
 // place is not 2 words, and then nothing is changed.
 #[no_mangle]
-pub extern "C" fn cembuxola_load(image: &[u8], map: &mut [u8], place: &mut [u16]) -> u16
+pub extern "C" fn cembuxola_load(image: &[u8], map: &mut [u32], place: &mut [u16]) -> u16
     ensures { λ r. ⌜ LoadLeft (now (image .entry)) (now (map .entry)) (now (place .entry)) r (now (map .exit)) (now (place .exit)) ⌝ }
 {
     if place.len() != 2 {
@@ -46,7 +46,7 @@ pub extern "C" fn cembuxola_start(image: &[u8], store: &mut [u16], machine: &mut
 pub extern "C" fn cembuxola_run(
     machine: &mut [u16],
     image: &[u8],
-    map: &[u8],
+    map: &[u32],
     store: &mut [u16],
     outputs: &mut [u16],
     inputs: &[u16],

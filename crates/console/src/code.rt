@@ -1,13 +1,16 @@
 // Where the code of an image is at fault, in words.
 use crate::print::number;
-use depths::rules::depth_of;
-use depths::rules::promised_of;
 use explain::Why;
 use listing::causes::words_length;
 use listing::causes::words_of;
+use listing::cell::cell_of;
 use listing::names::name_length;
 use listing::names::name_of;
 use listing::names::octal_of;
+use marks::depth_of;
+use marks::front_of;
+use marks::promised_of;
+use marks::saves_of;
 use mcode::Cause;
 use mcode::opcode::left_of;
 use mcode::opcode::length_of;
@@ -45,35 +48,66 @@ fn put_cause(fd: i32, cause: Cause) {
     put_letters(fd, &letters, words_length(cause));
 }
 
-// A depth, and the promised results beside it where there are any.
-fn put_mark(fd: i32, label: &[u8], mark: u8) {
+// A mark, as a listing shows it.
+fn put_mark(fd: i32, label: &[u8], mark: u32) {
+    let cell = cell_of(mark);
+    let letters = cell.letters;
+    io::write_all(fd, label);
+    put_letters(fd, &letters, cell.count);
+}
+
+// RTN with other results than the promised ones, or with a depth saved.
+fn put_return(fd: i32, mark: u32) {
+    let depth = depth_of(mark);
     let results = promised_of(mark);
-    number(fd, label, depth_of(mark) as u64);
-    if 0 < results {
-        number(fd, b"/", results as u64);
+    if depth == results {
+        put_mark(fd, b", at depth ", mark);
+        io::write_all(fd, b", a depth saved");
+        return;
+    }
+    number(fd, b", at depth ", depth as u64);
+    number(fd, b", results ", results as u64);
+}
+
+// LODFW with more or fewer words than its one, with no depth saved, or with 16 words, beside which its own has no room.
+fn put_fetch(fd: i32, mark: u32) {
+    put_mark(fd, b", at depth ", mark);
+    if depth_of(mark) != 1 {
+        io::write_all(fd, b", needs 1");
+    } else if saves_of(mark) == 0 {
+        io::write_all(fd, b", no depth saved");
+    } else {
+        number(fd, b", saves ", front_of(mark) as u64);
     }
 }
 
-// What the instruction op would do at a depth: return with other results than the promised ones, take more, or leave more than 16.
-fn put_rule(fd: i32, op: u8, mark: u8) {
-    let depth = depth_of(mark);
-    let taken = taken_of(op);
-    number(fd, b", at depth ", depth as u64);
-    if op == 0o354 {
-        number(fd, b", results ", promised_of(mark) as u64);
-    } else if depth < taken {
-        number(fd, b", takes ", taken as u64);
+// An instruction that takes more than there is, or leaves more than 16.
+fn put_words(fd: i32, op: u8, mark: u32) {
+    let depth = depth_of(mark) as u64;
+    let taken = taken_of(op) as u64;
+    number(fd, b", at depth ", depth);
+    if depth < taken {
+        number(fd, b", takes ", taken);
     } else {
-        number(
-            fd,
-            b", leaves ",
-            (depth - taken) as u64 + left_of(op) as u64,
-        );
+        number(fd, b", leaves ", depth - taken + left_of(op) as u64);
+    }
+}
+
+// What the instruction op would do at a mark that the rules do not allow it.
+fn put_rule(fd: i32, op: u8, mark: u32) {
+    match op {
+        0o354 => put_return(fd, mark),
+        0o260 => put_fetch(fd, mark),
+        0o262 => {
+            put_mark(fd, b", at depth ", mark);
+            io::write_all(fd, b", four depths saved");
+        }
+        _ => put_words(fd, op, mark),
     }
 }
 
 // A call at a depth: CI has its link on top of the parameters.
-fn put_call(fd: i32, op: u8, mark: u8, params: u8) {
+fn put_call(fd: i32, op: u8, mark: u32, params: u8) {
     number(fd, b", at depth ", depth_of(mark) as u64);
     if op == 0o356 {
         io::write_all(fd, b" with the link");

@@ -82,7 +82,7 @@ pub fn place(image: &mut [u8], number: u16) -> Place
 
 // Where any refusal of an image lies: with 13 or 8 in the code of a module. The map is lent for that; what it holds before and after does
 // not matter.
-pub fn found(image: &mut [u8], map: &mut [u8], number: u16) -> Place
+pub fn found(image: &mut [u8], map: &mut [u32], number: u16) -> Place
     ensures { λ r. ⌜ (now (image .exit) ≡ now (image .entry)) × (Found (now (image .entry)) (now (map .entry)) number r) ⌝ }
 {
     if number == 13 {

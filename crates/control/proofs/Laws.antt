@@ -4,13 +4,15 @@ use mathlib.Core.List.{List}
 use Prim.Native.Nat.{ℕ, _+_, _*_, _-_, _≤_, _<_}
 use native.Mathlib.Omega.{arith}
 use lib.ListN.{getD, List·getD-map}
-use Rattle.mcode.specs.Image.{basesOf, noModule}
+use Rattle.mcode.specs.Image.{basesOf, noModule, moduleOf}
+use Rattle.mcode.specs.Depths.{entry, markAt}
+use Rattle.mcode.specs.Step.{Lent}
 use Rattle.mcode.specs.declared.Module.{Module}
 use Rattle.mcode.specs.declared.Program.{Program}
 use Rattle.actions.specs.declared.Core.{Core}
 use Rattle.actions.specs.declared.Stepped.{Stepped}
 use Rattle.actions.specs.Core.{Stays, stepped}
-use Rattle.actions.specs.Table.{Tabled, Anchored, Based}
+use Rattle.actions.specs.Table.{moduleIn, Tabled, Anchored, Based, Lends}
 use Rattle.control.specs.Frames.{inFrame, inModule}
 
 pub base-in : {table : List ℕ} {program : Program} → Tabled table program → (k : ℕ) → k < 32 → getD (basesOf program) k 0 ≡ getD table (6 * k + 4) 0
@@ -37,3 +39,10 @@ from-start start at = omega arith
 
 pub after-start : (start at : ℕ) → start ≤ start + at
 after-start start at = omega arith
+
+-- the mark at the place of the registers is the definition's
+pub mark-in : {bytes table marks words : List ℕ} {lent : Lent} {r : Core} → Lends bytes table marks words lent → Anchored table r
+    → markAt (lent .map) (moduleOf (lent .program) (r .unit)) (r .pc - r .start) ≡ entry marks (r .pc)
+mark-in {table} {r} h a =
+    let q : moduleIn table (r .unit) .code + (r .pc - r .start) ≡ r .pc = omega (arith, a .start, a .own) in
+    rw (h .map, h .tabled .modules (r .unit) (a .few), q) refl

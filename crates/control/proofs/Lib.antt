@@ -1,6 +1,6 @@
 pub mod Laws
 pub mod Chain
 pub mod Find
-pub mod Landing
+pub mod Words
 pub mod Process
 pub mod Decoded

@@ -1,16 +1,15 @@
--- Laws of processes in the store: their tests, and their words one by one. Assumes nothing.
-use mathlib.Core.Path.{_≡_, refl, sym, ap, subst, _∙_}
+-- Laws of processes in the store: their tests, and their record word by word. Assumes nothing.
+use mathlib.Core.Path.{_≡_, refl, ap, _∙_}
 use mathlib.Core.Bool.{Bool, true, false}
 use mathlib.Core.List.{List, [], _∷_}
-use Prim.Native.Nat.{ℕ, zero, suc, _+_, _-_, _<_, _≤_}
+use Prim.Native.Nat.{ℕ, _+_, _-_, _<_, _≤_}
 use native.Mathlib.Omega.{arith}
 use lib.Dec.{ltb, leb}
-use lib.ListN.{length, getD, set, replicate}
-use lib.Seq.{set-comm}
+use lib.ListN.{length, set, replicate}
 use borrow.Author.Tests.{leb-true, ltb-true}
 use Rattle.mcode.specs.Word.{and}
 use Rattle.mcode.specs.Machine.{position}
-use Rattle.mcode.specs.Step.{Lent, Process, processAt, isProcess, standing, unitBased, saved, restored, written, savedStore, restoredMachine, switched}
+use Rattle.mcode.specs.Step.{Lent, Process, processAt, isProcess, standing, unitBased, restored, written, savedStore, restoredMachine, switched}
 use Rattle.mcode.proofs.Tests.{and-both}
 use Rattle.actions.specs.declared.Core.{Core}
 use Rattle.actions.specs.declared.Stepped.{Stepped}
@@ -63,34 +62,6 @@ unfolding isProcess sized
 process-in {lent} h w q x =
     regroup (leb (q + 8) w) (and (leb 24 (x .v)) (leb (x .v) w)) (and (leb 1 (x .s)) (leb (x .s) w)) (and (leb (x .k) 16) (ltb (x .k) (x .s))) (leb (x .s - 1 - x .k) (x .v - 24)) (standing lent (unitBased (lent .program) (x .g)) (x .pc) (x .k))
     ∙ ap (λ (t : Bool). and (sized w q x) t) (find-stands h (x .g) (x .pc) (x .k))
-
--- a place above the restored words keeps what was put there
-restored-over : (store : List ℕ) (n m a v : ℕ) (stack : List ℕ) → n ≤ m → restored store n a (set stack m v) ≡ set (restored store n a stack) m v
-unfolding restored
-restored-over store zero m a v stack l = refl
-restored-over store (suc n) m a v stack l =
-    ap (restored store n (a + 1)) (set-comm stack m n v (getD store a 0) (λ e. omega (arith, l, e)))
-    ∙ restored-over store n m (a + 1) v (set stack n (getD store a 0)) (omega (arith, l))
-
--- one word more, above those that are restored
-pub restored-up : (store : List ℕ) (n a : ℕ) (stack : List ℕ) → 0 < a → set (restored store n a stack) n (getD store (a - 1) 0) ≡ restored store (n + 1) (a - 1) stack
-unfolding restored
-restored-up store n a stack h =
-    let v : ℕ = getD store (a - 1) 0 in
-    let z : n + 1 ≡ suc n = omega arith in
-    let q : a ≡ a - 1 + 1 = omega (arith, h) in
-    rw z (sym (subst (λ (x : ℕ). restored store n x (set stack n v) ≡ set (restored store n a stack) n v) q (restored-over store n n a v stack (omega arith))))
-
--- one word more
-pub saved-on : (stack : List ℕ) (n s : ℕ) (store : List ℕ) → 0 < n → saved stack n s store ≡ saved stack (n - 1) (s + 1) (set store s (getD stack (n - 1) 0))
-unfolding saved
-saved-on stack zero s store l = elim (let z : ⊥ = omega arith in z) [ ]
-saved-on stack (suc n) s store l = let q : suc n - 1 ≡ n = omega arith in rw q refl
-
--- none left
-pub saved-all : (stack : List ℕ) (n s : ℕ) (store : List ℕ) → n ≤ 0 → saved stack n s store ≡ store
-unfolding saved
-saved-all stack n s store l = let q : n ≡ zero = omega arith in rw q refl
 
 pub written-six : (g l at m s v p : ℕ) (store : List ℕ)
     → written (g ∷ l ∷ at ∷ m ∷ s ∷ v ∷ []) p store ≡ set (set (set (set (set (set store p g) (p + 1) l) (p + 2) at) (p + 3) m) (p + 4) s) (p + 5) v

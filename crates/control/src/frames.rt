@@ -115,7 +115,7 @@ pub fn follow(r: Core, stack: &mut [u16; 16], store: &[u16], n: u16, to: usize) 
 }
 
 // Back to a position of the module that returns.
-fn back_here(r: Core, table: &[u16; 193], map: &[u8], store: &[u16], at: u16) -> Stepped
+fn back_here(r: Core, table: &[u16; 193], map: &[u32], store: &[u16], at: u16) -> Stepped
     requires { ⌜ Mapped (now table) (now map) ⌝ }
     requires { ⌜ Anchored (now table) r ⌝ }
     requires { ⌜ (r .depth ≤ 16) × (r .l .0 + 1 < length (now store)) × (r .start < 65536) ⌝ }
@@ -132,7 +132,7 @@ fn back_here(r: Core, table: &[u16; 193], map: &[u8], store: &[u16], at: u16) ->
 }
 
 // Back to a position of the module whose base is the word at L.
-fn back_there(r: Core, table: &[u16; 193], map: &[u8], store: &[u16], at: u16) -> Stepped
+fn back_there(r: Core, table: &[u16; 193], map: &[u32], store: &[u16], at: u16) -> Stepped
     requires { ⌜ Mapped (now table) (now map) ⌝ }
     requires { ⌜ Anchored (now table) r ⌝ }
     requires { ⌜ (r .depth ≤ 16) × (r .l .0 + 1 < length (now store)) ⌝ }
@@ -150,7 +150,7 @@ fn back_there(r: Core, table: &[u16; 193], map: &[u8], store: &[u16], at: u16) -
 
 // 354: "L above H is 34. Word L+2 of 7FFF hex ends. Below 8000 hex it is a position here, else minus 8000 hex in the module whose base
 // is word L."
-pub fn return_from(r: Core, table: &[u16; 193], map: &[u8], store: &[u16]) -> Stepped
+pub fn return_from(r: Core, table: &[u16; 193], map: &[u32], store: &[u16]) -> Stepped
     requires { ⌜ Mapped (now table) (now map) ⌝ }
     requires { ⌜ Framed (now table) (length (now store)) r ⌝ }
     requires { ⌜ Anchored (now table) r ⌝ }

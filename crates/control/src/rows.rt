@@ -31,7 +31,7 @@ pub fn row14(
     r: Core,
     image: &[u8],
     table: &[u16; 193],
-    map: &[u8],
+    map: &[u32],
     stack: &mut [u16; 16],
     store: &mut [u16],
 ) -> Stepped

@@ -1,11 +1,10 @@
 // The lent numbers: those of a module, the module of a base, and the marks of a position.
 use actions::leaf::wide;
+use marks::depth_of;
 ghost use mathlib.Core.Path.{_≡_};
 ghost use Prim.Native.Nat.{_+_, _*_, _≤_, _<_};
 ghost use lib.ListN.{length, getD};
-ghost use lib.Dec.{eqb};
-ghost use Rattle.mcode.specs.Word.{and, word};
-ghost use Rattle.mcode.specs.Depths.{depthOf, isMark};
+ghost use Rattle.mcode.specs.Word.{word};
 ghost use Rattle.mcode.specs.Image.{entryOf, procCount};
 ghost use Rattle.actions.specs.Table.{moduleIn};
 ghost use Rattle.control.specs.Table.{countIn, firstBased, standsIn, Entered, Mapped};
@@ -48,34 +47,8 @@ fn byte_in(image: &[u8], i: usize) -> u16
     wide(image[i])
 }
 
-// Whether a mark has a depth: it is that depth with 0 to 4 results. The first comparison decides where no results are promised; a remainder
-// would be slower (docs/PERFORMANCE.md).
-fn has_depth(mark: u16, depth: usize) -> bool
-    requires { ⌜ depth ≤ 16 ⌝ }
-    ensures { λ q. ⌜ q ≡ and (isMark mark) (eqb (depthOf mark) depth) ⌝ }
-{
-    let m = mark as usize;
-    if m == depth {
-        return true;
-    }
-    if m < depth {
-        return false;
-    }
-    let x = m - depth;
-    if x == 17 {
-        return true;
-    }
-    if x == 34 {
-        return true;
-    }
-    if x == 51 {
-        return true;
-    }
-    x == 68
-}
-
 // Whether module k is loaded and a position of it is marked with a depth.
-pub fn stands(table: &[u16; 193], map: &[u8], k: usize, at: u16, depth: usize) -> bool
+pub fn stands(table: &[u16; 193], map: &[u32], k: usize, at: u16, depth: usize) -> bool
     requires { ⌜ Mapped (now table) (now map) ⌝ }
     requires { ⌜ depth ≤ 16 ⌝ }
     ensures { λ q. ⌜ q ≡ standsIn (now (table .entry)) (now (map .entry)) k at depth ⌝ }
@@ -87,7 +60,7 @@ pub fn stands(table: &[u16; 193], map: &[u8], k: usize, at: u16, depth: usize) -
         return false;
     }
     let i = number(table, k, 1) as usize + at as usize;
-    has_depth(byte_in(map, i), depth)
+    depth_of(map[i]) as usize == depth
 }
 
 fn word_in(image: &[u8], i: usize) -> u16

@@ -1,4 +1,6 @@
 // 256 b, TRANSFER: everything is read before anything is written.
+use crate::saves::save_stack;
+use crate::saves::words_at;
 use crate::table::find_base;
 use crate::table::number;
 use crate::table::stands;
@@ -19,7 +21,7 @@ ghost use lib.ListN.{length, getD, replicate};
 ghost use Rattle.mcode.specs.Word.{pick};
 ghost use Rattle.mcode.specs.Machine.{position};
 ghost use Rattle.mcode.specs.Decode as Act;
-ghost use Rattle.mcode.specs.Step.{Lent, processAt, saved, restored, written, savedStore, switched};
+ghost use Rattle.mcode.specs.Step.{Lent, processAt, restored, written, savedStore, switched};
 ghost use Rattle.actions.specs.Core.{held, result, leftBy, acted, stepped};
 ghost use Rattle.actions.specs.Table.{Anchored, Lends};
 ghost use Rattle.control.specs.Table.{Mapped};
@@ -64,22 +66,6 @@ fn is_sized(store: &[u16], q: usize) -> bool
         return false;
     }
     s - 1 - k <= v - Machine::MARGIN
-}
-
-// The k words that stand top first from the word at a up, as a stack. Its bottom word first: from the top down the machine code is slower.
-fn words_at(store: &[u16], a: usize, k: usize) -> [u16; 16]
-    requires { ⌜ (k ≤ 16) × (a + k ≤ length (now store)) ⌝ }
-    ensures { λ q. ⌜ q ≡ restored (now (store .entry)) k a (replicate 16 0) ⌝ }
-{
-    let mut words = [0u16; 16];
-    let mut i = a + k;
-    let mut n = 0usize;
-    while n < k {
-        i = i - 1;
-        words[n] = store[i];
-        n = n + 1;
-    }
-    words
 }
 
 fn mask_of(r: Core, b: u16, m: u16) -> u16
@@ -129,20 +115,6 @@ fn resume(r: Core, table: &[u16; 193], store: &[u16], k: usize, b: u16, q: u16) 
     }
 }
 
-// The d words of the stack, top first, from the word at s up.
-fn save_words(stack: &[u16; 16], store: &mut [u16], d: usize, s: usize)
-    requires { ⌜ (d ≤ 16) × (s + d ≤ length (now store)) ⌝ }
-    ensures { λ q. ⌜ now (store .exit) ≡ saved (now (stack .entry)) d s (now (store .entry)) ⌝ }
-{
-    let mut i = s;
-    let mut n = d;
-    while 0 < n {
-        n = n - 1;
-        store[i] = stack[n];
-        i = i + 1;
-    }
-}
-
 fn write_record(store: &mut [u16], p: usize, g: u16, l: u16, at: u16, mask: u16, s: u16, v: u16)
     requires { ⌜ p + 8 ≤ length (now store) ⌝ }
     ensures { λ q. ⌜ now (store .exit) ≡ written (g ∷ l ∷ at ∷ mask ∷ s ∷ v ∷ []) p (now (store .entry)) ⌝ }
@@ -162,8 +134,7 @@ fn save_process(r: Core, stack: &[u16; 16], store: &mut [u16], d: usize, c: usiz
     ensures { λ q. ⌜ now (store .exit) ≡ savedStore (r .g .0) (position (to - r .start)) c (held r (now (stack .entry)) (now (store .entry)) []) d ⌝ }
 {
     let s = r.s.0 as usize;
-    save_words(stack, store, d, s);
-    store[s + d] = d as u16;
+    save_stack(stack, store, d, s);
     let p = r.p.0 as usize;
     let h = r.h.0 as usize;
     write_record(
@@ -205,7 +176,7 @@ fn exchange(
 fn switch(
     r: Core,
     table: &[u16; 193],
-    map: &[u8],
+    map: &[u32],
     stack: &mut [u16; 16],
     store: &mut [u16],
     b: u16,
@@ -239,7 +210,7 @@ fn switch(
 pub fn transfer(
     r: Core,
     table: &[u16; 193],
-    map: &[u8],
+    map: &[u32],
     stack: &mut [u16; 16],
     store: &mut [u16],
     b: u16,

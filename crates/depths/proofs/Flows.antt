@@ -9,7 +9,7 @@ use native.Mathlib.Omega.{arith}
 use lib.ListN.{getD, drop}
 use lib.Seq.{getD-drop}
 use lib.Dec.{ltb, leb, eqb}
-use borrow.Author.Tests.{ltb-true, ltb-false, leb-true, eq-eqb, ne-eqb, le-ltb, lt-ltb}
+use borrow.Author.Tests.{ltb-true, ltb-false, leb-true, eqb-true, eq-eqb, ne-eqb, le-ltb, lt-ltb}
 use Rattle.mcode.specs.declared.Flow.{Flow}
 use Rattle.mcode.specs.declared.Flow.the-variants.{Fault, Ends, To, Fork}
 use Rattle.mcode.specs.declared.Module.{Module}
@@ -17,11 +17,11 @@ use Rattle.mcode.specs.declared.Program.{Program}
 use Rattle.mcode.specs.Word.{pick, and, or, byte}
 use Rattle.mcode.specs.Opcode.{lengths, takens, lefts}
 use Rattle.mcode.specs.Image.{codeByte}
-use Rattle.mcode.specs.Depths.{depthOf, isMark, passed, permits, depthFlow, carry, flowAt, onward, jumps, calls, callsIn, namesModule, target}
-use Rattle.mcode.proofs.Marks.{is-mark, no-mark, mark-most, depth-passed, passed-real, passed-own, passed-twice, passed-row}
+use Rattle.mcode.specs.Depths.{depthOf, isMark, passed, leaves, permits, depthFlow, carry, flowAt, onward, jumps, calls, callsIn, namesModule, target}
+use Rattle.mcode.proofs.Marks.{depth-passed, passed-own, passed-twice, passed-row, leaves-passed}
 use Rattle.depths.specs.declared.rules.Row.{Row}
 use Rattle.depths.specs.declared.rules.Row.the-variants.{Unfit, Next}
-use Rattle.depths.specs.Cases.{rowAt, jumping, ending, plain, kindOf, kindsFrom, kinds}
+use Rattle.depths.specs.Cases.{rowAt, jumping, ending, saving, plain, kindOf, kindsFrom, kinds}
 
 -- what follows a row, where f says what follows its numbers
 abbrev after : (ℕ → ℕ → Flow) → Row → Flow
@@ -90,61 +90,99 @@ module _ (image : List ℕ) (program : Program) (m : Module) (p op b c n e : ℕ
         rw (h, j, no-module op (omega (arith, l)), le-ltb op 0o355 (omega (arith, l)), ne-eqb op 0o355 (λ z. omega (arith, l, z)))
         (one-call (leb op 0o360) (λ (i : ℕ). calls image m i n e) b (op - 0o360))
 
--- only RTN needs more than its row says
-permits-other : (k op : ℕ) → (op ≡ 0o354 → ⊥) → permits k op ≡ true
+-- only RTN, STORE and LODFW need more than their row says
+permits-other : (k op : ℕ) → (op ≡ 0o354 → ⊥) → (op ≡ 0o262 → ⊥) → (op ≡ 0o260 → ⊥) → permits k op ≡ true
 unfolding permits
-permits-other k op h = rw (ne-eqb op 0o354 h) refl
+permits-other k op a b c = rw (ne-eqb op 0o354 a, ne-eqb op 0o262 b, ne-eqb op 0o260 c) refl
 
-permits-on : (k op : ℕ) → ending op ≡ false → permits k op ≡ true
-permits-on k op h = permits-other k op (λ z. false≢true (sym h ∙ ends (eqb op 0o304) (eqb op 0o354) (eq-eqb op 0o354 z)))
+or-left : (a b : Bool) → or a b ≡ false → (a ≡ false) × (b ≡ false)
+or-left true b h = absurd (false≢true (sym h))
+or-left false b h = (refl, h)
+
+apart : (op k : ℕ) → eqb op k ≡ false → op ≡ k → ⊥
+apart op k h e = false≢true (sym h ∙ eq-eqb op k e)
+
+not-saving : (op : ℕ) → saving op ≡ false → (eqb op 0o262 ≡ false) × (eqb op 0o260 ≡ false)
+not-saving op h = or-left (eqb op 0o262) (eqb op 0o260) h
+
+permits-on : (k op : ℕ) → ending op ≡ false → saving op ≡ false → permits k op ≡ true
+permits-on k op h s =
+    let (a, b) = or-left (eqb op 0o304) (eqb op 0o354) h in
+    let (c, d) = not-saving op s in
+    permits-other k op (apart op 0o354 b) (apart op 0o262 c) (apart op 0o260 d)
+
+-- STORE and LODFW go on to the next instruction
+pub saving-plain : (op : ℕ) → saving op ≡ true → (jumping op ≡ false) × (ending op ≡ false) × (plain op ≡ true)
+saving-plain op = go (eqb op 0o262) refl (eqb op 0o260) refl
   where
-    ends : (a b : Bool) → b ≡ true → or a b ≡ true
-    ends true b t = refl
-    ends false b t = t
+    go : (a : Bool) → eqb op 0o262 ≡ a → (b : Bool) → eqb op 0o260 ≡ b → or a b ≡ true → (jumping op ≡ false) × (ending op ≡ false) × (plain op ≡ true)
+    go true x b y t = rw (eqb-true op 0o262 x) (refl, refl, refl)
+    go false x true y t = rw (eqb-true op 0o260 y) (refl, refl, refl)
+    go false x false y t = absurd (false≢true t)
 
--- what a kind k says of the tests: not listed, a jump, without a successor, plain
-abbrev by-tests : Bool → Bool → Bool → Bool → ℕ
-by-tests u j h q = pick u 5 (pick j 2 (pick h 3 (pick q 1 4)))
+pub saved-fetch : (op : ℕ) → saving op ≡ true → (op ≡ 0o262 → ⊥) → op ≡ 0o260
+saved-fetch op h n = eqb-true op 0o260 (rw (ne-eqb op 0o262 n) at h)
+
+-- what a kind k says of the tests: not listed, a jump, without a successor, STORE or LODFW, plain
+abbrev by-tests : Bool → Bool → Bool → Bool → Bool → ℕ
+by-tests u j h s q = pick u 6 (pick j 2 (pick h 3 (pick s 5 (pick q 1 4))))
 
 module _ (k : ℕ) where
-  pub of-plain : (u j h q : Bool) → k ≡ by-tests u j h q → k ≤ 1 → (u ≡ false) × (j ≡ false) × (h ≡ false) × (q ≡ true)
-  of-plain true j h q e l = absurd (omega (arith, e, l))
-  of-plain false true h q e l = absurd (omega (arith, e, l))
-  of-plain false false true q e l = absurd (omega (arith, e, l))
-  of-plain false false false true e l = (refl, refl, refl, refl)
-  of-plain false false false false e l = absurd (omega (arith, e, l))
+  pub of-plain : (u j h s q : Bool) → k ≡ by-tests u j h s q → k ≤ 1 → (u ≡ false) × (j ≡ false) × (h ≡ false) × (s ≡ false) × (q ≡ true)
+  of-plain true j h s q e l = absurd (omega arith)
+  of-plain false true h s q e l = absurd (omega arith)
+  of-plain false false true s q e l = absurd (omega arith)
+  of-plain false false false true q e l = absurd (omega arith)
+  of-plain false false false false true e l = (refl, refl, refl, refl, refl)
+  of-plain false false false false false e l = absurd (omega arith)
 
-  pub of-jump : (u j h q : Bool) → k ≡ by-tests u j h q → 1 < k → k ≤ 2 → (u ≡ false) × (j ≡ true)
-  of-jump true j h q e g l = absurd (omega (arith, e, l))
-  of-jump false true h q e g l = (refl, refl)
-  of-jump false false true q e g l = absurd (omega (arith, e, l))
-  of-jump false false false true e g l = absurd (omega (arith, e, g))
-  of-jump false false false false e g l = absurd (omega (arith, e, l))
+  pub of-jump : (u j h s q : Bool) → k ≡ by-tests u j h s q → 1 < k → k ≤ 2 → (u ≡ false) × (j ≡ true)
+  of-jump true j h s q e g l = absurd (omega arith)
+  of-jump false true h s q e g l = (refl, refl)
+  of-jump false false true s q e g l = absurd (omega arith)
+  of-jump false false false true q e g l = absurd (omega arith)
+  of-jump false false false false true e g l = absurd (omega arith)
+  of-jump false false false false false e g l = absurd (omega arith)
 
-  pub of-last : (u j h q : Bool) → k ≡ by-tests u j h q → 2 < k → k ≤ 3 → (u ≡ false) × (h ≡ true)
-  of-last true j h q e g l = absurd (omega (arith, e, l))
-  of-last false true h q e g l = absurd (omega (arith, e, g))
-  of-last false false true q e g l = (refl, refl)
-  of-last false false false true e g l = absurd (omega (arith, e, g))
-  of-last false false false false e g l = absurd (omega (arith, e, l))
+  pub of-last : (u j h s q : Bool) → k ≡ by-tests u j h s q → 2 < k → k ≤ 3 → (u ≡ false) × (h ≡ true)
+  of-last true j h s q e g l = absurd (omega arith)
+  of-last false true h s q e g l = absurd (omega arith)
+  of-last false false true s q e g l = (refl, refl)
+  of-last false false false true q e g l = absurd (omega arith)
+  of-last false false false false true e g l = absurd (omega arith)
+  of-last false false false false false e g l = absurd (omega arith)
 
-  pub of-other : (u j h q : Bool) → k ≡ by-tests u j h q → 3 < k → k ≤ 4 → (u ≡ false) × (j ≡ false) × (h ≡ false) × (q ≡ false)
-  of-other true j h q e g l = absurd (omega (arith, e, l))
-  of-other false true h q e g l = absurd (omega (arith, e, g))
-  of-other false false true q e g l = absurd (omega (arith, e, g))
-  of-other false false false true e g l = absurd (omega (arith, e, g))
-  of-other false false false false e g l = (refl, refl, refl, refl)
+  pub of-other : (u j h s q : Bool) → k ≡ by-tests u j h s q → 3 < k → k ≤ 4 → (u ≡ false) × (j ≡ false) × (h ≡ false) × (s ≡ false) × (q ≡ false)
+  of-other true j h s q e g l = absurd (omega arith)
+  of-other false true h s q e g l = absurd (omega arith)
+  of-other false false true s q e g l = absurd (omega arith)
+  of-other false false false true q e g l = absurd (omega arith)
+  of-other false false false false true e g l = absurd (omega arith)
+  of-other false false false false false e g l = (refl, refl, refl, refl, refl)
 
-  pub of-none : (u j h q : Bool) → k ≡ by-tests u j h q → 4 < k → u ≡ true
-  of-none true j h q e g = refl
-  of-none false true h q e g = absurd (omega (arith, e, g))
-  of-none false false true q e g = absurd (omega (arith, e, g))
-  of-none false false false true e g = absurd (omega (arith, e, g))
-  of-none false false false false e g = absurd (omega (arith, e, g))
+  pub of-saves : (u j h s q : Bool) → k ≡ by-tests u j h s q → 4 < k → k ≤ 5 → (u ≡ false) × (s ≡ true)
+  of-saves true j h s q e g l = absurd (omega arith)
+  of-saves false true h s q e g l = absurd (omega arith)
+  of-saves false false true s q e g l = absurd (omega arith)
+  of-saves false false false true q e g l = (refl, refl)
+  of-saves false false false false true e g l = absurd (omega arith)
+  of-saves false false false false false e g l = absurd (omega arith)
+
+  pub of-none : (u j h s q : Bool) → k ≡ by-tests u j h s q → 5 < k → u ≡ true
+  of-none true j h s q e l = refl
+  of-none false true h s q e l = absurd (omega arith)
+  of-none false false true s q e l = absurd (omega arith)
+  of-none false false false true q e l = absurd (omega arith)
+  of-none false false false false true e l = absurd (omega arith)
+  of-none false false false false false e l = absurd (omega arith)
 
   pub kind-other : (op : ℕ) → k ≡ kindOf op → 3 < k → k ≤ 4 → (jumping op ≡ false) × (ending op ≡ false) × (plain op ≡ false)
   unfolding kindOf
-  kind-other op x g l = let (u, j, h, q) = of-other (eqb (getD lengths op 0) 0) (jumping op) (ending op) (plain op) x g l in (j, h, q)
+  kind-other op x g l = let (u, j, h, s, q) = of-other (eqb (getD lengths op 0) 0) (jumping op) (ending op) (saving op) (plain op) x g l in (j, h, q)
+
+  pub kind-saves : (op : ℕ) → k ≡ kindOf op → 4 < k → k ≤ 5 → saving op ≡ true
+  unfolding kindOf
+  kind-saves op x g l = of-saves (eqb (getD lengths op 0) 0) (jumping op) (ending op) (saving op) (plain op) x g l .1
 
 -- the table has the kind of every opcode
 kind-from : (i n k : ℕ) → k < n → getD (kindsFrom i n) k 0 ≡ kindOf (i + k)
@@ -174,14 +212,6 @@ module _ (op p k size n e : ℕ) (q : rowAt op p k size ≡ Next n e) where
       let (a, b, c) = row-inverse (ltb size (p + getD lengths op 0)) (ltb (depthOf k) (getD takens op 0)) (ltb 16 deep) (p + getD lengths op 0) (passed k deep) n e q in
       (ltb-false (depthOf k) (getD takens op 0) a, ltb-false 16 deep b, c)
 
-  -- it leaves a mark
-  pub row-real : k ≤ 84 → e ≤ 84
-  row-real l = let (a, b, c) = row-says in mark-most e (ap isMark (sym c) ∙ passed-real k deep (is-mark k l) b)
-
-  -- with the same results
-  pub row-floor : passed e 0 ≡ passed k 0
-  row-floor = let (a, b, c) = row-says in ap (λ (x : ℕ). passed x 0) (sym c) ∙ passed-twice k deep 0 b
-
   row-of : (o : ℕ) → op ≡ o → (x y : ℕ) → getD takens o 0 ≡ x → getD lefts o 0 ≡ y → (x ≤ depthOf k) × (depthOf k - x + y ≤ 16) × (passed k (depthOf k - x + y) ≡ e)
   row-of o h x y t u =
       let t′ : getD takens op 0 ≡ x = ap (λ (i : ℕ). getD takens i 0) h ∙ t in
@@ -200,18 +230,6 @@ module _ (op p k size n e : ℕ) (q : rowAt op p k size ≡ Next n e) where
       go (yes h) = at e (row-of 0o36 h 1 1 refl refl)
       go (no h) = at e (row-of 0o37 (let k = ltb-true op 0o40 (second (leb 0o30 op) (ltb op 0o40) j) in omega arith) 1 1 refl refl)
 
-  -- RTN leaves its own mark, so that the one after the row tells whether it is permitted
-  pub permits-row : permits e op ≡ permits k op
-  unfolding takens lefts
-  permits-row = go (ℕ-discrete op 0o354)
-    where
-      go : Dec (op ≡ 0o354) → permits e op ≡ permits k op
-      go (yes h) =
-          let (a, b, c) = row-of 0o354 h 0 0 refl refl in
-          let z : depthOf k - 0 + 0 ≡ depthOf k = omega arith in
-          ap (λ (x : ℕ). permits x op) (sym c ∙ ap (passed k) z ∙ passed-own k)
-      go (no h) = permits-other e op h ∙ sym (permits-other k op h)
-
 -- a jump to marks is a jump to their depths, since 036 and 037 leave at least 1
 carry-jumps : (op t n e : ℕ) → (0o36 ≤ op → 1 ≤ depthOf e) → carry (passed e) (jumps op t n (depthOf e)) ≡ jumps op t n e
 unfolding jumps
@@ -227,39 +245,40 @@ carry-jumps op t n e h = go (leb 0o36 op) refl (or (eqb op 0o31) (or (eqb op 0o3
 
 -- the cases of a row, at a position with the mark k
 module _ (image : List ℕ) (program : Program) (m : Module) (p k : ℕ) where
-  abbrev ahead : ℕ → ℕ → ℕ → Flow
-  ahead op n e = carry (passed e) (onward image program m p op (codeByte image m (p + 1)) (codeByte image m (p + 2)) n (depthOf e))
+  abbrev next : ℕ → ℕ → ℕ → Flow
+  next op n e = onward image program m p op (codeByte image m (p + 1)) (codeByte image m (p + 2)) n (depthOf e)
 
-  carried : carry (passed k) (depthFlow image program m p (depthOf k)) ≡ pick (eqb (getD lengths (codeByte image m p) 0) 0) Fault (after (ahead (codeByte image m p)) (rowAt (codeByte image m p) p k (m .length)))
+  abbrev ahead : ℕ → ℕ → ℕ → Flow
+  ahead op n e = carry (leaves k op) (next op n e)
+
+  carried : (op : ℕ) → op ≡ codeByte image m p → carry (leaves k op) (depthFlow image program m p (depthOf k)) ≡ pick (eqb (getD lengths op 0) 0) Fault (after (ahead op) (rowAt op p k (m .length)))
   unfolding depthFlow rowAt
-  carried =
-      let op = codeByte image m p in
+  carried op o =
       let size = getD lengths op 0 in
       let taken = getD takens op 0 in
       let e = depthOf k - taken + getD lefts op 0 in
-      by (eqb size 0) (ltb (m .length) (p + size)) (ltb (depthOf k) taken) (ltb 16 e) op (p + size) e (λ t. ltb-false 16 e t)
+      rw (sym o) (by (eqb size 0) (ltb (m .length) (p + size)) (ltb (depthOf k) taken) (ltb 16 e) (p + size) e (λ t. ltb-false 16 e t))
     where
-      by : (a b c d : Bool) (op n e : ℕ) → (d ≡ false → e ≤ 16)
-          → carry (passed k) (pick a Fault (pick b Fault (pick c Fault (pick d Fault (onward image program m p op (codeByte image m (p + 1)) (codeByte image m (p + 2)) n e)))))
+      by : (a b c d : Bool) (n e : ℕ) → (d ≡ false → e ≤ 16)
+          → carry (leaves k op) (pick a Fault (pick b Fault (pick c Fault (pick d Fault (onward image program m p op (codeByte image m (p + 1)) (codeByte image m (p + 2)) n e)))))
           ≡ pick a Fault (after (ahead op) (pick b Unfit (pick c Unfit (pick d Unfit (Next n (passed k e))))))
-      by true b c d op n e l = refl
-      by false true c d op n e l = refl
-      by false false true d op n e l = refl
-      by false false false true op n e l = refl
-      by false false false false op n e l =
-          rw (depth-passed k e (l refl)) (sym (carry-same (λ d. passed-twice k e d (l refl)) (onward image program m p op (codeByte image m (p + 1)) (codeByte image m (p + 2)) n e)))
+      by true b c d n e l = refl
+      by false true c d n e l = refl
+      by false false true d n e l = refl
+      by false false false true n e l = refl
+      by false false false false n e l = rw (depth-passed k e (l refl)) refl
 
-  pub flow-unmarked : 84 < k → flowAt image program m p k ≡ Fault
+  pub flow-unmarked : isMark k ≡ false → flowAt image program m p k ≡ Fault
   unfolding flowAt
-  flow-unmarked l = rw (no-mark k l) refl
+  flow-unmarked l = rw l refl
 
-  module _ (real : k ≤ 84) (op size : ℕ) (o : op ≡ codeByte image m p) (s : size ≡ m .length) where
-    abbrev of-row : ℕ → Row → Flow
-    of-row op r = pick (permits k op) (pick (eqb (getD lengths op 0) 0) Fault (after (ahead op) r)) Fault
+  module _ (real : isMark k ≡ true) (op size : ℕ) (o : op ≡ codeByte image m p) (s : size ≡ m .length) where
+    abbrev of-row : Row → Flow
+    of-row r = pick (permits k op) (pick (eqb (getD lengths op 0) 0) Fault (after (ahead op) r)) Fault
 
-    by-row : (r : Row) → rowAt op p k size ≡ r → flowAt image program m p k ≡ of-row op r
+    by-row : (r : Row) → rowAt op p k size ≡ r → flowAt image program m p k ≡ of-row r
     unfolding flowAt
-    by-row r q = rw (is-mark k real, carried) (ap₂ of-row (sym o) (ap₂ (λ (x y : ℕ). rowAt x p k y) (sym o) (sym s) ∙ q))
+    by-row r q = rw (real, sym o, carried op o) (ap of-row (ap (rowAt op p k) (sym s) ∙ q))
 
     none : (t u : Bool) → pick t (pick u Fault Fault) Fault ≡ Fault
     none true true = refl
@@ -270,8 +289,12 @@ module _ (image : List ℕ) (program : Program) (m : Module) (p k : ℕ) where
     flow-unfit q = by-row Unfit q ∙ none (permits k op) (eqb (getD lengths op 0) 0)
 
     module _ (n e : ℕ) (q : rowAt op p k size ≡ Next n e) where
-      pub flow-barred : permits e op ≡ false → flowAt image program m p k ≡ Fault
-      flow-barred t = by-row (Next n e) q ∙ rw (sym (permits-row op p k size n e q) ∙ t) refl
+      -- any but STORE and LODFW passes its mark on
+      passes : saving op ≡ false → (f : Flow) → carry (leaves k op) f ≡ carry (passed e) f
+      passes t f =
+          let (x, y) = not-saving op t in
+          let (a, b, c) = row-says op p k size n e q in
+          carry-same (λ d. leaves-passed k op d x y ∙ sym (ap (λ (j : ℕ). passed j d) (sym c) ∙ passed-twice k (deep op p k size n e q) d (omega arith))) f
 
       module _ (κ : ℕ) (x : κ ≡ kindOf op) where
         -- where it is permitted and listed
@@ -281,44 +304,46 @@ module _ (image : List ℕ) (program : Program) (m : Module) (p k : ℕ) where
         pub flow-plain : κ ≤ 1 → flowAt image program m p k ≡ To n e
         unfolding kindOf
         flow-plain l =
-            let (u, j, h, y) = of-plain κ (eqb (getD lengths op 0) 0) (jumping op) (ending op) (plain op) x l in
-            met (permits-on k op h) u ∙ ap (carry (passed e)) (onward-plain image program m p op _ _ n (depthOf e) j h y) ∙ ap (To n) (passed-own e)
+            let (u, j, h, t, y) = of-plain κ (eqb (getD lengths op 0) 0) (jumping op) (ending op) (saving op) (plain op) x l in
+            met (permits-on k op h t) u ∙ passes t (next op n e) ∙ ap (carry (passed e)) (onward-plain image program m p op (codeByte image m (p + 1)) (codeByte image m (p + 2)) n (depthOf e) j h y) ∙ ap (To n) (passed-own e)
 
         pub flow-jump : 1 < κ → κ ≤ 2 → (t b c : ℕ) → t ≡ target op (p + 1) b c → b ≡ codeByte image m (p + 1) → c ≡ codeByte image m (p + 2)
             → flowAt image program m p k ≡ jumps op t n e
         unfolding kindOf
         flow-jump g l t b c z y w =
-            let (u, j) = of-jump κ (eqb (getD lengths op 0) 0) (jumping op) (ending op) (plain op) x g l in
+            let (u, j) = of-jump κ (eqb (getD lengths op 0) 0) (jumping op) (ending op) (saving op) (plain op) x g l in
             let near = ltb-true op 0o40 (second (leb 0o30 op) (ltb op 0o40) j) in
             let t′ : target op (p + 1) (codeByte image m (p + 1)) (codeByte image m (p + 2)) ≡ t = rw (sym y, sym w) (sym z) in
-            met (permits-other k op (λ v. omega (arith, near, v))) u
-            ∙ ap (carry (passed e)) (onward-jump image program m p op _ _ n (depthOf e) j ∙ ap (λ (v : ℕ). jumps op v n (depthOf e)) t′)
+            let far : (i : ℕ) → 0o40 ≤ i → op ≡ i → ⊥ = λ i a v. omega arith in
+            let other : saving op ≡ false = rw (ne-eqb op 0o262 (far 0o262 (omega arith)), ne-eqb op 0o260 (far 0o260 (omega arith))) refl in
+            met (permits-other k op (far 0o354 (omega arith)) (far 0o262 (omega arith)) (far 0o260 (omega arith))) u
+            ∙ passes other (next op n e)
+            ∙ ap (carry (passed e)) (onward-jump image program m p op (codeByte image m (p + 1)) (codeByte image m (p + 2)) n (depthOf e) j ∙ ap (λ (v : ℕ). jumps op v n (depthOf e)) t′)
             ∙ carry-jumps op t n e (row-some op p k size n e q j)
 
-        pub flow-ends : 2 < κ → κ ≤ 3 → permits e op ≡ true → flowAt image program m p k ≡ Ends
+        pub flow-last : 2 < κ → κ ≤ 3 → flowAt image program m p k ≡ pick (permits k op) Ends Fault
         unfolding kindOf
-        flow-ends g l t =
-            let (u, h) = of-last κ (eqb (getD lengths op 0) 0) (jumping op) (ending op) (plain op) x g l in
-            met (sym (permits-row op p k size n e q) ∙ t) u ∙ ap (carry (passed e)) (onward-ends image program m p op _ _ n (depthOf e) h)
+        flow-last g l =
+            let (u, h) = of-last κ (eqb (getD lengths op 0) 0) (jumping op) (ending op) (saving op) (plain op) x g l in
+            by-row (Next n e) q ∙ rw (u, onward-ends image program m p op (codeByte image m (p + 1)) (codeByte image m (p + 2)) n (depthOf e) h) refl
 
-        -- what a test of the flow that Ends passes and Fault fails says of RTN and TRAP
-        pub last-passes : (test : Flow → Bool) → test Ends ≡ true → test Fault ≡ false → 2 < κ → κ ≤ 3 → permits e op ≡ test (flowAt image program m p k)
-        last-passes test ends faults g l = go (permits e op) refl
-          where
-            go : (t : Bool) → permits e op ≡ t → t ≡ test (flowAt image program m p k)
-            go true h = sym (ap test (flow-ends g l h) ∙ ends)
-            go false h = sym (ap test (flow-barred h) ∙ faults)
-
-        pub flow-unlisted : 4 < κ → flowAt image program m p k ≡ Fault
+        pub flow-saves : 4 < κ → κ ≤ 5 → flowAt image program m p k ≡ pick (permits k op) (To n (leaves k op (depthOf e))) Fault
         unfolding kindOf
-        flow-unlisted g = by-row (Next n e) q ∙ rw (of-none κ (eqb (getD lengths op 0) 0) (jumping op) (ending op) (plain op) x g) (none (permits k op) true)
+        flow-saves g l =
+            let (u, t) = of-saves κ (eqb (getD lengths op 0) 0) (jumping op) (ending op) (saving op) (plain op) x g l in
+            let (j, h, y) = saving-plain op t in
+            by-row (Next n e) q ∙ rw (u, onward-plain image program m p op (codeByte image m (p + 1)) (codeByte image m (p + 2)) n (depthOf e) j h y) refl
+
+        pub flow-unlisted : 5 < κ → flowAt image program m p k ≡ Fault
+        unfolding kindOf
+        flow-unlisted g = by-row (Next n e) q ∙ rw (of-none κ (eqb (getD lengths op 0) 0) (jumping op) (ending op) (saving op) (plain op) x g) (none (permits k op) true)
 
         pub flow-next : 3 < κ → κ ≤ 4 → (b c : ℕ) → b ≡ codeByte image m (p + 1) → c ≡ codeByte image m (p + 2)
             → flowAt image program m p k ≡ carry (passed e) (onward image program m p op b c n (depthOf e))
         unfolding kindOf
         flow-next g l b c y w =
-            let (u, j, h, v) = of-other κ (eqb (getD lengths op 0) 0) (jumping op) (ending op) (plain op) x g l in
-            met (permits-on k op h) u ∙ ap₂ (λ (s t : ℕ). carry (passed e) (onward image program m p op s t n (depthOf e))) (sym y) (sym w)
+            let (u, j, h, t, v) = of-other κ (eqb (getD lengths op 0) 0) (jumping op) (ending op) (saving op) (plain op) x g l in
+            met (permits-on k op h t) u ∙ passes t (next op n e) ∙ ap₂ (λ (s t : ℕ). carry (passed e) (onward image program m p op s t n (depthOf e))) (sym y) (sym w)
 
 -- the image from a on has its bytes
 pub code-byte : (image code : List ℕ) (a i k : ℕ) → code ≡ drop a image → a + i ≡ k → byte code i ≡ byte image k

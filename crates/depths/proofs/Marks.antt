@@ -1,10 +1,13 @@
 -- The marks that the rules ask are depths, and so never the number that means unmarked; and what the lent lists say of a program.
-use mathlib.Core.Path.{_≡_, refl}
+use mathlib.Core.Path.{_≡_, refl, ap, _∙_}
+use mathlib.Core.Logic.{inl, inr}
 use mathlib.Core.Bool.{Bool, true, false}
 use mathlib.Core.List.{List, [], _∷_}
 use Prim.Native.Nat.{ℕ, zero, suc, _+_, _-_, _≤_, _<_}
+use native.Mathlib.Decide.{ℕ-discrete, decLt}
 use native.Mathlib.Omega.{arith}
-use lib.ListN.{length, getD}
+use lib.ListN.{length, getD, set, length-set, List·getD-eq-default}
+use lib.Seq.{getD-set-same, getD-set-other}
 use lib.Dec.{ltb, leb, eqb}
 use borrow.Author.Tests.{ltb-true, ltb-false}
 use Rattle.mcode.specs.declared.Flow.{Flow}
@@ -13,10 +16,14 @@ use Rattle.mcode.specs.declared.Module.{Module}
 use Rattle.mcode.specs.Word.{pick, and, or}
 use Rattle.mcode.specs.Opcode.{lengths, takens, lefts}
 use Rattle.mcode.specs.Image.{noModule, codeByte, procCount, paramsOf, resultsOf}
-use Rattle.mcode.specs.Depths.{markOf, depthOf, isMark, passed, permits, depthFlow, carry, flowAt, onward, jumps, calls, callsIn, namesModule, target}
-use Rattle.mcode.proofs.Marks.{mark-real, passed-real, real-marked}
+use Rattle.mcode.specs.Depths.{unmarked, markOf, depthOf, isMark, leaves, permits, depthFlow, carry, flowAt, onward, jumps, calls, callsIn, namesModule, target}
+use Rattle.mcode.proofs.Marks.{entry-mark, mark-real, leaves-mark}
 use Rattle.mcode.specs.Layout.{Sound}
 use Rattle.depths.specs.Lent.{light, lights, lightOf, Placed}
+use Rattle.depths.specs.declared.Visit.the-variants.{Tail}
+use Rattle.depths.specs.declared.Turn.{Turn}
+use Rattle.depths.specs.declared.Turn.the-variants.{Stop, Next}
+use Rattle.depths.specs.Queue.{AllMarks, Turning, Visited}
 use Rattle.depths.proofs.Theory.{Real}
 
 pub light-at : (ps ts : List ℕ) (k : ℕ) → length ps ≡ length ts → getD (lights ps ts) k noModule ≡ light (getD ps k 0) (getD ts k 0)
@@ -34,11 +41,42 @@ Shallow Ends = Unit {0}
 Shallow (To q d) = d ≤ 16
 Shallow (Fork q d r e) = (d ≤ 16) × (e ≤ 16)
 
-real-carry : (k : ℕ) → isMark k ≡ true → (f : Flow) → Shallow f → Real 255 (carry (passed k) f)
-real-carry k h Fault s = tt
-real-carry k h Ends s = tt
-real-carry k h (To q d) s = real-marked _ (passed-real k d h s)
-real-carry k h (Fork q d r e) s = (real-marked _ (passed-real k d h (s .0)), real-marked _ (passed-real k e h (s .1)))
+-- the marks that a flow asks are encodings
+abbrev pub Packed : Flow → Type 0
+Packed Fault = Unit {0}
+Packed Ends = Unit {0}
+Packed (To q d) = isMark d ≡ true
+Packed (Fork q d r e) = (isMark d ≡ true) × (isMark e ≡ true)
+
+packed-carry : (k op : ℕ) → isMark k ≡ true → permits k op ≡ true → (f : Flow) → Shallow f → Packed (carry (leaves k op) f)
+packed-carry k op t h Fault s = tt
+packed-carry k op t h Ends s = tt
+packed-carry k op t h (To q d) s = leaves-mark k op d t h s
+packed-carry k op t h (Fork q d r e) s = (leaves-mark k op d t h (s .0), leaves-mark k op e t h (s .1))
+
+-- and so none is the number of an unmarked position
+packed-real : (f : Flow) → Packed f → Real unmarked f
+packed-real Fault s = tt
+packed-real Ends s = tt
+packed-real (To q d) s = mark-real d s
+packed-real (Fork q d r e) s = (mark-real d (s .0), mark-real e (s .1))
+
+-- a map of encodings stays one where one is put, or a visit goes on
+set-marks : (m : List ℕ) (q d : ℕ) → isMark d ≡ true → AllMarks m → AllMarks (set m q d)
+set-marks m q d t M p n = go (ℕ-discrete p q) (decLt q (length m))
+  where
+    go : Dec (p ≡ q) → Dec (q < length m) → isMark (getD (set m q d) p unmarked) ≡ true
+    go (yes e) (yes l) = rw e (ap isMark (getD-set-same m q d unmarked l) ∙ t)
+    go (yes e) (no l) = absurd (n (rw e (List·getD-eq-default (set m q d) unmarked (omega (arith, length-set m q d)))))
+    go (no e) l = let s = getD-set-other m q p d unmarked e in ap isMark s ∙ M p (λ z. n (s ∙ z))
+
+pub visited-marks : (m w : List ℕ) (t q d t′ : ℕ) (m′ w′ : List ℕ) → Visited unmarked m w t q d (Tail t′) m′ w′ → isMark d ≡ true → AllMarks m → AllMarks m′
+visited-marks m w t q d t′ m′ w′ (l, inl (e, s, _, _)) h M = rw s (set-marks m q d h M)
+visited-marks m w t q d t′ m′ w′ (l, inr (e, s, _, _)) h M = rw s M
+
+pub turning : (r : Turn) (m : List ℕ) → AllMarks m → Turning r m
+turning Stop m M = tt
+turning (Next t p d) m M = M
 
 test : (b : Bool) (f g : Flow) → (b ≡ true → Shallow f) → (b ≡ false → Shallow g) → Shallow (pick b f g)
 test true f g x y = x refl
@@ -89,14 +127,21 @@ module _ (image : List ℕ) (count : ℕ) (procs tables : List ℕ) (m : Module)
       (λ z. test (ltb 16 e) _ _ (λ z. tt)
       (λ z. shallow-onward p op (codeByte image m (p + 1)) (codeByte image m (p + 2)) (p + size) e (ltb-false 16 e z)))))
 
-  pub real-flow : (p k : ℕ) → Real 255 (flowAt image (lightOf count procs tables) m p k)
+  pub packed-flow : (p k : ℕ) → Packed (flowAt image (lightOf count procs tables) m p k)
   unfolding flowAt
-  real-flow p k = go (isMark k) refl (permits k (codeByte image m p))
+  packed-flow p k = go (isMark k) refl (permits k (codeByte image m p)) refl
     where
-      go : (u : Bool) → isMark k ≡ u → (v : Bool) → Real 255 (pick u (pick v (carry (passed k) (depthFlow image (lightOf count procs tables) m p (depthOf k))) Fault) Fault)
-      go true h true = real-carry k h (depthFlow image (lightOf count procs tables) m p (depthOf k)) (shallow-flow p (depthOf k))
-      go true h false = tt
-      go false h v = tt
+      go : (u : Bool) → isMark k ≡ u → (v : Bool) → permits k (codeByte image m p) ≡ v
+          → Packed (pick u (pick v (carry (leaves k (codeByte image m p)) (depthFlow image (lightOf count procs tables) m p (depthOf k))) Fault) Fault)
+      go true t true h = packed-carry k (codeByte image m p) t h (depthFlow image (lightOf count procs tables) m p (depthOf k)) (shallow-flow p (depthOf k))
+      go true t false h = tt
+      go false t v h = tt
 
-  pub real-entry : (k : ℕ) → k < procCount m → markOf (paramsOf image m k) (resultsOf image m k) ≡ 255 → ⊥
-  real-entry k l = real-marked _ (mark-real (paramsOf image m k) (resultsOf image m k) (S .params k l) (S .results k l))
+  pub real-flow : (p k : ℕ) → Real unmarked (flowAt image (lightOf count procs tables) m p k)
+  real-flow p k = packed-real (flowAt image (lightOf count procs tables) m p k) (packed-flow p k)
+
+  pub packed-entry : (k : ℕ) → k < procCount m → isMark (markOf (paramsOf image m k) (resultsOf image m k) 0 0) ≡ true
+  packed-entry k l = entry-mark (paramsOf image m k) (resultsOf image m k) (S .params k l) (S .results k l)
+
+  pub real-entry : (k : ℕ) → k < procCount m → markOf (paramsOf image m k) (resultsOf image m k) 0 0 ≡ unmarked → ⊥
+  real-entry k l = mark-real (markOf (paramsOf image m k) (resultsOf image m k) 0 0) (packed-entry k l)

@@ -15,7 +15,7 @@ use Rattle.mcode.specs.declared.Module.{Module}
 use Rattle.mcode.specs.declared.Program.{Program}
 use Rattle.mcode.specs.Word.{pick}
 use Rattle.mcode.specs.Image.{moduleOf, codeByte}
-use Rattle.mcode.specs.Depths.{depthOf, isMark, passed, permits, depths, depthFlow, carry, flowAt, onward, calls, callsIn}
+use Rattle.mcode.specs.Depths.{depthOf, isMark, leaves, permits, depths, depthFlow, carry, flowAt, onward, calls, callsIn}
 use Rattle.mcode.specs.Layout.{Told}
 use Rattle.depths.specs.Lent.{light, lightOf, depthsOf, Copied, Placed}
 use Rattle.depths.proofs.Marks.{light-at}
@@ -52,7 +52,7 @@ module _ (image : List ℕ) (program : Program) (procs tables : List ℕ) (C : C
 
   flow-same : (m : Module) (p k : ℕ) → flowAt image lit m p k ≡ flowAt image program m p k
   unfolding flowAt
-  flow-same m p k = ap (λ (f : Flow). pick (isMark k) (pick (permits k (codeByte image m p)) (carry (passed k) f) Fault) Fault) (depth-same m p (depthOf k))
+  flow-same m p k = ap (λ (f : Flow). pick (isMark k) (pick (permits k (codeByte image m p)) (carry (leaves k (codeByte image m p)) f) Fault) Fault) (depth-same m p (depthOf k))
 
   pub depths-same : (m : Module) → depthsOf image (program .count) procs tables m ≡ depths image program m
   depths-same m =

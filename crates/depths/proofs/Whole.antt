@@ -12,9 +12,9 @@ use lib.ListN.{length}
 use lib.Dec.{ltb, leb, eqb}
 use Rattle.mcode.specs.declared.Module.{Module}
 use Rattle.mcode.specs.declared.Program.{Program}
-use Rattle.mcode.specs.Word.{and, or, allBelow, byte}
+use Rattle.mcode.specs.Word.{and, or, allBelow}
 use Rattle.mcode.specs.Image.{moduleOf, inCode}
-use Rattle.mcode.specs.Depths.{Analysis, depths, marksOf, fits, mapFits}
+use Rattle.mcode.specs.Depths.{Analysis, unmarked as none, depths, entry, marksOf, fits, mapFits}
 use Rattle.mcode.specs.Layout.{Told}
 use Rattle.mcode.proofs.Tests.{refuted, and-both, both-and, first-or, second-or, or-second, all-at, at-all, any-at, at-any}
 use Rattle.depths.specs.Lent.{depthsOf, Copied}
@@ -38,7 +38,7 @@ abbrev pub partFits : List ℕ → Program → List ℕ → ℕ → Bool
 partFits image program map k = fits (depths image program (moduleOf program k)) (marksOf map (moduleOf program k))
 
 abbrev byteFits : Program → List ℕ → ℕ → Bool
-byteFits program map i = or (inCode program i) (eqb (byte map i) 0xff)
+byteFits program map i = or (inCode program i) (eqb (entry map i) none)
 
 -- module k's test, as it is made of what is lent: of the bytes from `at` up to its code, and of its part
 abbrev pub moduleFits : List ℕ → Program → List ℕ → List ℕ → List ℕ → ℕ → ℕ → Bool
@@ -103,7 +103,7 @@ module _ (image : List ℕ) (program : Program) (map : List ℕ) where
   gap-decides at e l out u = refuted (mapFits image program map) (λ f. false≢true (sym u ∙ at-all e (clear map at) (λ i h. go f i h (decLt i at))))
     where
       go : mapFits image program map ≡ true → (i : ℕ) → i < e → Dec (i < at) → clear map at i ≡ true
-      go f i h (yes x) = first-or (ltb i at) (eqb (byte map i) 255) (lt-ltb _ _ x)
+      go f i h (yes x) = first-or (ltb i at) (eqb (entry map i) none) (lt-ltb _ _ x)
       go f i h (no x) = fits-clear program map at i (out i (omega arith) h) (fit-bytes f i (omega arith))
 
   module _ (T : Told image program) (k at : ℕ) (S : Tested image program map k at) where
@@ -138,7 +138,7 @@ module _ (image : List ℕ) (program : Program) (map : List ℕ) where
         far : (i : ℕ) → i < to program k → Dec (i < at) → Dec (i < from program k) → byteFits program map i ≡ true
         far i h (yes x) d = S .bytes i x
         far i h (no x) (yes y) = clear-fits program map at i (omega arith) (all-at (from program k) (clear map at) u i y)
-        far i h (no x) (no y) = first-or (inCode program i) (eqb (byte map i) 0xff) (in-code program k i l (omega arith) h)
+        far i h (no x) (no y) = first-or (inCode program i) (eqb (entry map i) none) (in-code program k i l (omega arith) h)
 
     module _ (procs tables : List ℕ) (C : Copied program procs tables) (l : k < program .count) where
       same : fits (depthsOf image (program .count) procs tables (moduleOf program k)) (marksOf map (moduleOf program k)) ≡ partFits image program map k

@@ -32,10 +32,14 @@ ending op = or (eqb op 0o304) (eqb op 0o354)
 abbrev pub plain : ℕ → Bool
 plain op = pick (namesModule op) false (ltb op 0o355)
 
+-- STORE and LODFW
+abbrev pub saving : ℕ → Bool
+saving op = or (eqb op 0o262) (eqb op 0o260)
+
 -- the kind of an opcode, by these tests: 1 has the next one as its only successor, 2 jumps, 3 has no successor, 4 names a module or is a
--- call, 5 is not listed
+-- call, 5 saves the stack or fetches it, 6 is not listed
 unfoldable pub kindOf : ℕ → ℕ
-kindOf op = pick (eqb (getD lengths op 0) 0) 5 (pick (jumping op) 2 (pick (ending op) 3 (pick (plain op) 1 4)))
+kindOf op = pick (eqb (getD lengths op 0) 0) 6 (pick (jumping op) 2 (pick (ending op) 3 (pick (saving op) 5 (pick (plain op) 1 4))))
 
 -- the kinds of n opcodes from op on, and of all
 unfoldable pub kindsFrom : ℕ → ℕ → List ℕ

@@ -10,7 +10,7 @@ use Rattle.depths.specs.declared.Visit.{Visit}
 use Rattle.depths.specs.declared.Visit.the-variants.{Clash, Tail}
 use Rattle.depths.specs.declared.Turn.{Turn}
 use Rattle.depths.specs.declared.Turn.the-variants.{Stop, Next}
-use Rattle.mcode.specs.Depths.{Analysis, mark, Marked, Follows, Fits, Fewest, NoneFits}
+use Rattle.mcode.specs.Depths.{Analysis, mark, Marked, Follows, Fits, Fewest, NoneFits, unmarked, isMark}
 
 -- how many positions are unmarked
 unfoldable pub free : ℕ → List ℕ → ℕ
@@ -38,6 +38,18 @@ pub record Queue (A : Analysis) (m w : List ℕ) (h t : ℕ) : Type 0 where
 -- the entries before e have their marks
 abbrev pub Entered : Analysis → List ℕ → ℕ → Type 0
 Entered A m e = (i : ℕ) → i < e → mark A m (A .entryAt i) ≡ A .entryMark i
+
+-- every mark of the map is an encoding; of what a visit or a turn leaves, as long as the search goes on
+abbrev pub AllMarks : List ℕ → Type 0
+AllMarks m = (p : ℕ) → (getD m p unmarked ≡ unmarked → ⊥) → isMark (getD m p unmarked) ≡ true
+
+abbrev pub Visiting : Visit → List ℕ → Type 0
+Visiting Clash m = Unit {0}
+Visiting (Tail t) m = AllMarks m
+
+abbrev pub Turning : Turn → List ℕ → Type 0
+Turning Stop m = Unit {0}
+Turning (Next t p d) m = AllMarks m
 
 -- what visiting position q for the mark d does to the map and the queue
 abbrev pub Visited : ℕ → List ℕ → List ℕ → ℕ → ℕ → ℕ → Visit → List ℕ → List ℕ → Type 0

@@ -3,45 +3,50 @@ use crate::kinds::JUMP;
 use crate::kinds::LAST;
 use crate::kinds::NAMES;
 use crate::kinds::PLAIN;
+use crate::kinds::SAVES;
 use crate::records::records_of;
 use crate::rules::Row;
 use crate::rules::byte_at;
 use crate::rules::entry_mark;
 use crate::rules::entry_of;
-use crate::rules::floor_of;
 use crate::rules::jump;
 use crate::rules::kind_of;
+use crate::rules::moved;
 use crate::rules::onward_at;
-use crate::rules::permitted;
 use crate::rules::proc_count;
 use crate::rules::row_at;
 use crate::rules::target_at;
-use crate::rules::wide;
+use marks::UNMARKED;
+use marks::is_mark;
+use marks::passed_on;
+use marks::permitted;
 use mcode::Flow;
 use mcode::Module;
 use mcode::Program;
 ghost use mathlib.Core.Path.{_≡_};
+ghost use mathlib.Core.Bool.{true};
 ghost use Prim.Native.Nat.{_≤_, _<_};
 ghost use lib.ListN.{length, getD, drop};
 ghost use lib.Dec.{eqb};
 ghost use Rattle.mcode.specs.Word.{and};
+ghost use Rattle.mcode.specs.Depths as depths;
 ghost use Rattle.mcode.specs.Depths.{depthOf, isMark, passed, fits, flowAt, marksOf, mapFits};
 ghost use Rattle.mcode.specs.Layout.{Sound, Told};
 ghost use Rattle.depths.specs.Lent.{lightOf, depthsOf, Placed, Ready};
 ghost use Rattle.depths.specs.Test as test;
 
 // Whether position q has the mark d; one outside is unmarked.
-fn has_mark(map: &[u8], q: usize, d: u8) -> bool
-    ensures { λ r. ⌜ r ≡ eqb (getD (now (map .entry)) q 255) d ⌝ }
+fn has_mark(map: &[u32], q: usize, d: u32) -> bool
+    ensures { λ r. ⌜ r ≡ eqb (getD (now (map .entry)) q (depths.unmarked)) d ⌝ }
 {
     if q < map.len() {
         return map[q] == d;
     }
-    255 == d
+    UNMARKED == d
 }
 
 // Whether the successors have the marks that f asks.
-fn follows(map: &[u8], f: Flow) -> bool
+fn follows(map: &[u32], f: Flow) -> bool
     ensures { λ r. ⌜ r ≡ test.followedIn (now (map .entry)) f ⌝ }
 {
     match f {
@@ -58,7 +63,7 @@ fn follows(map: &[u8], f: Flow) -> bool
 }
 
 // Whether each entry has its mark.
-fn entries_fit(image: &[u8], map: &[u8], m: Module) -> bool
+fn entries_fit(image: &[u8], map: &[u32], m: Module) -> bool
     requires { ⌜ Sound (now image) m ⌝ }
     ensures { λ r. ⌜ r ≡ test.entriesFit (now (image .entry)) m (now (map .entry)) ⌝ }
 {
@@ -76,23 +81,15 @@ fn entries_fit(image: &[u8], map: &[u8], m: Module) -> bool
     true
 }
 
-// Whether a mark has the results of `floor`, which is at depth 0: no remainder is taken for it.
-fn has_results(mark: u8, floor: u8) -> bool
-    requires { ⌜ (floor ≤ 84) × (depthOf floor ≡ 0) ⌝ }
-    ensures { λ r. ⌜ r ≡ and (isMark mark) (eqb (passed mark 0) floor) ⌝ }
-{
-    std::num::wrapping_sub_u8(mark, floor) <= 16
-}
-
-// Whether position p, with this mark and `floor` the one with its results at depth 0, follows the rules. `code` is the image from the
-// module's code on. It goes the way of `flow_at`, but looks at the marks at once, so that either has one caller and is compiled in line.
+// Whether position p, with this mark and `floor` the one with its results and saved depths at depth 0, follows the rules. `code` is the image
+// from the module's code on. It goes the way of `flow_at`, but looks at the marks at once, so that either has one caller and is compiled in line.
 fn position_fits(
     image: &[u8],
     code: &[u8],
-    map: &[u8],
+    map: &[u32],
     p: usize,
-    mark: u8,
-    floor: u8,
+    mark: u32,
+    floor: u32,
     count: usize,
     procs: &[u16; 32],
     tables: &[usize; 32],
@@ -103,21 +100,12 @@ fn position_fits(
     kinds: &[u8; 256],
 ) -> bool
     requires { ⌜ (p < m .length) × (length (now map) ≡ m .length) × (now code ≡ drop (m .code) (now image)) ⌝ }
-    requires { ⌜ (mark ≤ 84) × (floor ≡ passed mark 0) ⌝ }
+    requires { ⌜ (isMark mark ≡ true) × (floor ≡ passed mark 0) ⌝ }
     requires { ⌜ Ready (now image) count (now procs) (now tables) m (now sizes) (now takes) (now leaves) (now kinds) ⌝ }
     ensures { λ r. ⌜ r ≡ test.followedIn (now (map .entry)) (flowAt (now (image .entry)) (lightOf count (now (procs .entry)) (now (tables .entry))) m p mark) ⌝ }
 {
     let op = code[p];
-    let row = row_at(
-        op,
-        p,
-        mark,
-        wide(mark - floor),
-        map.len(),
-        sizes,
-        takes,
-        leaves,
-    );
+    let row = row_at(op, p, mark, mark - floor, map.len(), sizes, takes, leaves);
     match row {
         Row::Unfit => false,
         Row::Next(n, e) => {
@@ -131,25 +119,37 @@ fn position_fits(
                 return follows(map, f);
             }
             if kind <= LAST {
-                return permitted(e, op);
+                return permitted(mark, op);
             }
-            if NAMES < kind {
-                return false;
+            if kind <= NAMES {
+                let b = byte_at(code, p + 1);
+                let c = byte_at(code, p + 2);
+                let f = onward_at(image, op, b, c, n, e, count, procs, tables, m);
+                return follows(map, f);
             }
-            let b = byte_at(code, p + 1);
-            let c = byte_at(code, p + 2);
-            let f = onward_at(image, op, b, c, n, e, floor, count, procs, tables, m);
-            follows(map, f)
+            if kind <= SAVES {
+                let f = moved(op, mark, n);
+                return follows(map, f);
+            }
+            false
         }
     }
 }
 
-// Whether each marked position follows the rules. The results of the position before are most often those of the next one too; where they are
-// not, the position is looked at again with its own.
+// Whether a mark has the results and the saved depths of `floor`, which is one at depth 0: one comparison tells that, and that it is a mark.
+fn has_floor(mark: u32, floor: u32) -> bool
+    requires { ⌜ (isMark floor ≡ true) × (depthOf floor ≡ 0) ⌝ }
+    ensures { λ r. ⌜ r ≡ and (isMark mark) (eqb (passed mark 0) floor) ⌝ }
+{
+    std::num::wrapping_sub_u32(mark, floor) <= 16
+}
+
+// Whether each marked position follows the rules. The results and the saved depths of the position before are most often those of the next one
+// too; where they are not, the position is looked at again with its own.
 fn marks_fit(
     image: &[u8],
     code: &[u8],
-    map: &[u8],
+    map: &[u32],
     count: usize,
     procs: &[u16; 32],
     tables: &[usize; 32],
@@ -163,11 +163,11 @@ fn marks_fit(
     requires { ⌜ (length (now map) ≡ m .length) × (now code ≡ drop (m .code) (now image)) ⌝ }
     ensures { λ r. ⌜ r ≡ test.marksFit (depthsOf (now (image .entry)) count (now (procs .entry)) (now (tables .entry)) m) (now (map .entry)) ⌝ }
 {
-    let mut floor: u8 = 0;
+    let mut floor: u32 = 0;
     let mut p: usize = 0;
     while p < map.len() {
         let mark = map[p];
-        if has_results(mark, floor) {
+        if has_floor(mark, floor) {
             let ok = position_fits(
                 image,
                 code,
@@ -188,10 +188,10 @@ fn marks_fit(
                 return false;
             }
             p += 1;
-        } else if mark == 255 {
+        } else if mark == UNMARKED {
             p += 1;
-        } else if mark <= 84 {
-            floor = floor_of(mark);
+        } else if is_mark(mark) {
+            floor = passed_on(mark, 0);
         } else {
             return false;
         }
@@ -202,7 +202,7 @@ fn marks_fit(
 // Whether module m's part of the map fits. It has copies of the tables.
 fn part_fits(
     image: &[u8],
-    map: &[u8],
+    map: &[u32],
     count: usize,
     procs: &[u16; 32],
     tables: &[usize; 32],
@@ -237,13 +237,13 @@ fn part_fits(
 }
 
 // Whether no position from `from` up to `to` is marked.
-fn unmarked(map: &[u8], from: usize, to: usize) -> bool
+fn unmarked(map: &[u32], from: usize, to: usize) -> bool
     requires { ⌜ to ≤ length (now map) ⌝ }
     ensures { λ r. ⌜ r ≡ test.unmarked (now (map .entry)) from to ⌝ }
 {
     let mut i = from;
     while i < to {
-        if map[i] != 255 {
+        if map[i] != UNMARKED {
             return false;
         }
         i += 1;
@@ -255,7 +255,7 @@ fn unmarked(map: &[u8], from: usize, to: usize) -> bool
 // tables in its frame and registers of its own.
 fn module_fits(
     image: &[u8],
-    map: &[u8],
+    map: &[u32],
     at: usize,
     count: usize,
     procs: &[u16; 32],
@@ -275,7 +275,7 @@ fn module_fits(
 }
 
 // Whether a lent map fits the image: each module's part does, and the bytes before, between and after the codes are unmarked.
-pub fn map_fits(image: &[u8], program: Program, map: &[u8]) -> bool
+pub fn map_fits(image: &[u8], program: Program, map: &[u32]) -> bool
     requires { ⌜ Told (now image) program ⌝ }
     requires { ⌜ length (now image) ≤ length (now map) ⌝ }
     ensures { λ r. ⌜ r ≡ mapFits (now (image .entry)) program (now (map .entry)) ⌝ }

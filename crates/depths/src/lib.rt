@@ -5,15 +5,16 @@ pub mod kinds;
 pub mod records;
 pub mod rules;
 
+use marks::UNMARKED;
 use mcode::Flow;
 use mcode::Module;
 ghost use mathlib.Core.Path.{_≡_};
 ghost use Prim.Native.Nat.{_+_, _≤_, _<_};
 ghost use lib.ListN.{length, getD, replicate};
-ghost use Rattle.mcode.specs.Depths.{Answer};
+ghost use Rattle.mcode.specs.Depths.{unmarked, Answer};
 ghost use Rattle.mcode.specs.Layout.{Sound};
 ghost use Rattle.depths.specs.Lent.{depthsOf, Placed, Ready};
-ghost use Rattle.depths.specs.Queue.{free, Visited, Queue, Headed, Advanced, Started, Found};
+ghost use Rattle.depths.specs.Queue.{free, AllMarks, Visiting, Turning, Visited, Queue, Headed, Advanced, Started, Found};
 
 // The queue's end after a visit, or a mark that cannot be.
 pub enum Visit {
@@ -22,16 +23,16 @@ pub enum Visit {
 }
 
 // Visits position q for the mark d: an unmarked position is marked and queued. Each is queued once, so the queue never overflows.
-fn enqueue(map: &mut [u8], work: &mut [u16], t: usize, q: usize, d: u8) -> Visit
-    requires { ⌜ t + free 255 (now map) ≤ length (now work) ⌝ }
+fn enqueue(map: &mut [u32], work: &mut [u16], t: usize, q: usize, d: u32) -> Visit
+    requires { ⌜ t + free unmarked (now map) ≤ length (now work) ⌝ }
     requires { ⌜ length (now map) ≤ 65536 ⌝ }
-    ensures { λ r. ⌜ Visited 255 (now (map .entry)) (now (work .entry)) t q d r (now (map .exit)) (now (work .exit)) ⌝ }
+    ensures { λ r. ⌜ Visited unmarked (now (map .entry)) (now (work .entry)) t q d r (now (map .exit)) (now (work .exit)) ⌝ }
 {
     if map.len() <= q {
         return Visit::Clash;
     }
     let old = map[q];
-    if old == 255 {
+    if old == UNMARKED {
         map[q] = d;
         work[t] = q as u16;
         return Visit::Tail(t + 1);
@@ -45,13 +46,13 @@ fn enqueue(map: &mut [u8], work: &mut [u16], t: usize, q: usize, d: u8) -> Visit
 // Where the search goes on: nowhere, or the queue's end, and the position whose turn is next with its mark, if one waits.
 pub enum Turn {
     Stop,
-    Next(usize, usize, u8),
+    Next(usize, usize, u32),
 }
 
 // The turn of the position at h.
-fn head(map: &[u8], work: &[u16], h: usize, t: usize) -> Turn
+fn head(map: &[u32], work: &[u16], h: usize, t: usize) -> Turn
     requires { ⌜ (h < t → (h < length (now work)) × (getD (now work) h 0 < length (now map))) ⌝ }
-    ensures { λ r. ⌜ Headed 255 (now (map .entry)) (now (work .entry)) h t r ⌝ }
+    ensures { λ r. ⌜ Headed unmarked (now (map .entry)) (now (work .entry)) h t r ⌝ }
 {
     if h < t {
         let p = work[h] as usize;
@@ -65,10 +66,10 @@ fn head(map: &[u8], work: &[u16], h: usize, t: usize) -> Turn
 // code, the turn of its only successor comes without a read of what was just written.
 fn expand(
     image: &[u8],
-    map: &mut [u8],
+    map: &mut [u32],
     work: &mut [u16],
     p: usize,
-    d: u8,
+    d: u32,
     h: usize,
     t: usize,
     count: usize,
@@ -81,9 +82,9 @@ fn expand(
     kinds: &[u8; 256],
 ) -> Turn
     requires { ⌜ Ready (now image) count (now procs) (now tables) m (now sizes) (now takes) (now leaves) (now kinds) ⌝ }
-    requires { ⌜ (h < t) × (getD (now work) h 0 ≡ p) × (getD (now map) p 255 ≡ d) ⌝ }
+    requires { ⌜ (h < t) × (getD (now work) h 0 ≡ p) × (getD (now map) p unmarked ≡ d) × AllMarks (now map) ⌝ }
     requires { ⌜ Queue (depthsOf (now image) count (now procs) (now tables) m) (now map) (now work) h t ⌝ }
-    ensures { λ r. ⌜ Advanced (depthsOf (now (image .entry)) count (now (procs .entry)) (now (tables .entry)) m) (h + 1) (now (map .entry)) r (now (map .exit)) (now (work .exit)) ⌝ }
+    ensures { λ r. ⌜ Advanced (depthsOf (now (image .entry)) count (now (procs .entry)) (now (tables .entry)) m) (h + 1) (now (map .entry)) r (now (map .exit)) (now (work .exit)) × Turning r (now (map .exit)) ⌝ }
 {
     let f = rules::flow_at(
         image,
@@ -132,7 +133,7 @@ fn expand(
 // Visits the entry of each procedure with its mark. (The records name the analysis in the contract.)
 fn enter(
     image: &[u8],
-    map: &mut [u8],
+    map: &mut [u32],
     work: &mut [u16],
     count: usize,
     procs: &[u16; 32],
@@ -142,8 +143,8 @@ fn enter(
     requires { ⌜ Sound (now image) m ⌝ }
     requires { ⌜ Placed (now image) count (now procs) (now tables) ⌝ }
     requires { ⌜ m .length ≤ length (now work) ⌝ }
-    requires { ⌜ now map ≡ replicate (m .length) 255 ⌝ }
-    ensures { λ r. ⌜ Started (depthsOf (now (image .entry)) count (now (procs .entry)) (now (tables .entry)) m) r (now (map .exit)) (now (work .exit)) ⌝ }
+    requires { ⌜ now map ≡ replicate (m .length) unmarked ⌝ }
+    ensures { λ r. ⌜ Started (depthsOf (now (image .entry)) count (now (procs .entry)) (now (tables .entry)) m) r (now (map .exit)) (now (work .exit)) × Visiting r (now (map .exit)) ⌝ }
 {
     let n = rules::proc_count(m);
     let mut t: usize = 0;
@@ -168,7 +169,7 @@ fn enter(
 // Takes positions from the queue until it is empty.
 fn drain(
     image: &[u8],
-    map: &mut [u8],
+    map: &mut [u32],
     work: &mut [u16],
     until: usize,
     count: usize,
@@ -181,7 +182,7 @@ fn drain(
     kinds: &[u8; 256],
 ) -> bool
     requires { ⌜ Ready (now image) count (now procs) (now tables) m (now sizes) (now takes) (now leaves) (now kinds) ⌝ }
-    requires { ⌜ Started (depthsOf (now image) count (now procs) (now tables) m) (Visit.Tail until) (now map) (now work) ⌝ }
+    requires { ⌜ Started (depthsOf (now image) count (now procs) (now tables) m) (Visit.Tail until) (now map) (now work) × AllMarks (now map) ⌝ }
     ensures { λ r. ⌜ Found (depthsOf (now (image .entry)) count (now (procs .entry)) (now (tables .entry)) m) r (now (map .exit)) ⌝ }
 {
     let mut h: usize = 0;
@@ -219,12 +220,12 @@ fn drain(
 }
 
 // Unmarks all.
-pub fn blank(map: &mut [u8])
-    ensures { λ _. ⌜ now (map .exit) ≡ replicate (length (now (map .entry))) 255 ⌝ }
+pub fn blank(map: &mut [u32])
+    ensures { λ _. ⌜ now (map .exit) ≡ replicate (length (now (map .entry))) unmarked ⌝ }
 {
     let mut i = 0;
     while i < map.len() {
-        map[i] = 255;
+        map[i] = UNMARKED;
         i += 1;
     }
 }
@@ -233,7 +234,7 @@ pub fn blank(map: &mut [u8])
 // before a rule was broken. `work` is for the queue: what it holds before and after does not matter.
 pub fn find(
     image: &[u8],
-    map: &mut [u8],
+    map: &mut [u32],
     work: &mut [u16],
     count: usize,
     procs: &[u16; 32],
@@ -273,7 +274,7 @@ pub fn find(
 // Fills module m's part of the map with the fewest depths that fit. False, and all unmarked, where none fit.
 pub fn check(
     image: &[u8],
-    map: &mut [u8],
+    map: &mut [u32],
     work: &mut [u16],
     count: usize,
     procs: &[u16; 32],

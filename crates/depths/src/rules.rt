@@ -3,19 +3,27 @@ use crate::kinds::JUMP;
 use crate::kinds::LAST;
 use crate::kinds::NAMES;
 use crate::kinds::PLAIN;
+use crate::kinds::SAVES;
+use marks::depth_of;
+use marks::fetch_mark;
+use marks::pack;
+use marks::passed_on;
+use marks::permitted;
+use marks::store_mark;
 use mcode::Flow;
 use mcode::Module;
 ghost use mathlib.Core.Path.{_≡_};
-ghost use mathlib.Core.Bool.{false};
+ghost use mathlib.Core.Bool.{true, false};
 ghost use Prim.Native.Nat.{ℕ, _+_, _-_, _*_, _≤_, _<_};
 ghost use lib.ListN.{length, getD};
 ghost use lib.Dec.{leb};
 ghost use Rattle.mcode.specs.Word.{pick, byte};
 ghost use Rattle.mcode.specs.Opcode.{lengths, takens, lefts};
 ghost use Rattle.mcode.specs.Image.{moduleOf, procCount, entryOf, paramsOf, resultsOf};
-ghost use Rattle.mcode.specs.Depths.{markOf, depthOf, promised, passed, permits, carry, target, jumps, calls, callsIn, namesModule, onward, flowAt};
+ghost use Rattle.mcode.specs.Depths.{markOf, depthOf, isMark, passed, leaves, permits, carry, target, jumps, calls, callsIn, namesModule, onward, flowAt};
+ghost use Rattle.mcode.specs.declared.Flow.the-variants.{Fault, Ends, To};
 ghost use Rattle.mcode.specs.Layout.{Sound};
-ghost use Rattle.depths.specs.Cases.{rowAt, jumping, ending, plain, kindOf, kinds};
+ghost use Rattle.depths.specs.Cases.{rowAt, jumping, ending, saving, plain, kindOf, kinds};
 ghost use Rattle.depths.specs.Lent.{lightOf, Placed, Ready};
 
 // A byte as a number.
@@ -23,6 +31,13 @@ pub fn wide(x: u8) -> usize
     ensures { λ r. ⌜ (r ≡ x) × (r < 256) ⌝ }
 {
     x as usize
+}
+
+// The same, beside the fields of a mark.
+fn wide32(x: u8) -> u32
+    ensures { λ r. ⌜ (r ≡ x) × (r < 256) ⌝ }
+{
+    x as u32
 }
 
 // The rows of the opcode table, which is lent: a const array is built anew at each use.
@@ -33,18 +48,18 @@ pub fn length_of(t: &[u8; 256], op: u8) -> usize
     wide(t[op as usize])
 }
 
-fn taken_of(t: &[u8; 256], op: u8) -> usize
+fn taken_of(t: &[u8; 256], op: u8) -> u32
     requires { ⌜ now t ≡ takens ⌝ }
     ensures { λ r. ⌜ (r ≡ getD takens op 0) × (r < 256) ⌝ }
 {
-    wide(t[op as usize])
+    wide32(t[op as usize])
 }
 
-fn left_of(t: &[u8; 256], op: u8) -> usize
+fn left_of(t: &[u8; 256], op: u8) -> u32
     requires { ⌜ now t ≡ lefts ⌝ }
     ensures { λ r. ⌜ (r ≡ getD lefts op 0) × (r < 256) ⌝ }
 {
-    wide(t[op as usize])
+    wide32(t[op as usize])
 }
 
 // The kind of op, from the lent table.
@@ -108,43 +123,15 @@ fn results_of(image: &[u8], m: Module, i: usize) -> u8
     byte_at(image, m.table + 4 * i + 3)
 }
 
-// The mark of procedure i's entry: its parameters and its results.
-pub fn entry_mark(image: &[u8], m: Module, i: usize) -> u8
+// The mark of procedure i's entry: its parameters and its results, nothing saved.
+pub fn entry_mark(image: &[u8], m: Module, i: usize) -> u32
     requires { ⌜ (i < 65536) × (m .table ≤ 65535) ⌝ }
     requires { ⌜ (paramsOf (now image) m i ≤ 16) × (resultsOf (now image) m i ≤ 4) ⌝ }
-    ensures { λ r. ⌜ r ≡ markOf (paramsOf (now (image .entry)) m i) (resultsOf (now (image .entry)) m i) ⌝ }
+    ensures { λ r. ⌜ r ≡ markOf (paramsOf (now (image .entry)) m i) (resultsOf (now (image .entry)) m i) 0 0 ⌝ }
 {
-    params_of(image, m, i) + 17 * results_of(image, m, i)
-}
-
-// The depth and the results of a mark.
-pub fn depth_of(k: u8) -> u8
-    ensures { λ r. ⌜ r ≡ depthOf k ⌝ }
-{
-    k % 17
-}
-
-pub fn promised_of(k: u8) -> u8
-    ensures { λ r. ⌜ r ≡ promised k ⌝ }
-{
-    k / 17
-}
-
-// The mark with the results of k at depth 0.
-pub fn floor_of(k: u8) -> u8
-    ensures { λ r. ⌜ r ≡ passed k 0 ⌝ }
-{
-    k - k % 17
-}
-
-// Whether the mark k permits op: "RTN needs a depth equal to" the results.
-pub fn permitted(k: u8, op: u8) -> bool
-    ensures { λ r. ⌜ r ≡ permits k op ⌝ }
-{
-    if op == 0o354 {
-        return depth_of(k) == promised_of(k);
-    }
-    true
+    let params = params_of(image, m, i);
+    let results = results_of(image, m, i);
+    pack(params as u32, results as u32, 0, 0)
 }
 
 // The target of the jump op whose operand begins at position s, which is `at` in the lent bytes. One below 0 wraps to 32,768 or more,
@@ -168,7 +155,7 @@ pub fn target_at(code: &[u8], at: usize, op: u8, s: usize) -> usize
 }
 
 // The mark of 036 and 037 where they do not jump: one less than their row says.
-fn less_one(e: u8) -> u8
+fn less_one(e: u32) -> u32
     ensures { λ r. ⌜ r ≡ e - 1 ⌝ }
 {
     if e == 0 {
@@ -178,7 +165,7 @@ fn less_one(e: u8) -> u8
 }
 
 // After the jump op to t, with the next instruction at n and the mark e that its row leaves.
-pub fn jump(op: u8, t: usize, n: usize, e: u8) -> Flow
+pub fn jump(op: u8, t: usize, n: usize, e: u32) -> Flow
     ensures { λ r. ⌜ r ≡ jumps op t n e ⌝ }
 {
     if 0o36 <= op {
@@ -196,16 +183,16 @@ pub fn jump(op: u8, t: usize, n: usize, e: u8) -> Flow
     Flow::Fork(t, e, n, e)
 }
 
-// A call of procedure i of module m, where its row leaves the mark e, with `floor` the one at depth 0: the depth is the procedure's
-// parameters, and the next position has its results as the depth.
-fn call(image: &[u8], m: Module, i: usize, n: usize, e: u8, floor: u8) -> Flow
+// A call of procedure i of module m, where its row leaves the mark e: the depth is the procedure's parameters, and the next position has its
+// results as the depth.
+fn call(image: &[u8], m: Module, i: usize, n: usize, e: u32) -> Flow
     requires { ⌜ (i < 65536) × (m .table ≤ 65535) ⌝ }
-    requires { ⌜ (e ≤ 84) × (floor ≡ passed e 0) × ((i < procCount m) → resultsOf (now image) m i ≤ 4) ⌝ }
+    requires { ⌜ ((i < procCount m) → resultsOf (now image) m i ≤ 4) ⌝ }
     ensures { λ r. ⌜ r ≡ carry (passed e) (calls (now (image .entry)) m i n (depthOf e)) ⌝ }
 {
     if i < proc_count(m) {
-        if e - floor == params_of(image, m, i) {
-            return Flow::To(n, floor + results_of(image, m, i));
+        if depth_of(e) == params_of(image, m, i) as u32 {
+            return Flow::To(n, passed_on(e, results_of(image, m, i) as u32));
         }
         return Flow::Fault;
     }
@@ -218,13 +205,12 @@ fn call_in(
     k: usize,
     i: usize,
     n: usize,
-    e: u8,
-    floor: u8,
+    e: u32,
     count: usize,
     procs: &[u16; 32],
     tables: &[usize; 32],
 ) -> Flow
-    requires { ⌜ (i < 65536) × (e ≤ 84) × (floor ≡ passed e 0) ⌝ }
+    requires { ⌜ i < 65536 ⌝ }
     requires { ⌜ Placed (now image) count (now procs) (now tables) ⌝ }
     ensures { λ r. ⌜ r ≡ carry (passed e) (callsIn (now (image .entry)) (lightOf count (now (procs .entry)) (now (tables .entry))) k i n (depthOf e)) ⌝ }
 {
@@ -237,7 +223,7 @@ fn call_in(
             procs: procs[k],
             table: tables[k],
         };
-        return call(image, m, i, n, e, floor);
+        return call(image, m, i, n, e);
     }
     Flow::Fault
 }
@@ -295,15 +281,13 @@ pub fn onward_at(
     b: u8,
     c: u8,
     n: usize,
-    e: u8,
-    floor: u8,
+    e: u32,
     count: usize,
     procs: &[u16; 32],
     tables: &[usize; 32],
     m: Module,
 ) -> Flow
-    requires { ⌜ (jumping op ≡ false) × (ending op ≡ false) × (plain op ≡ false) ⌝ }
-    requires { ⌜ (e ≤ 84) × (floor ≡ passed e 0) × Sound (now image) m ⌝ }
+    requires { ⌜ (jumping op ≡ false) × (ending op ≡ false) × (plain op ≡ false) × Sound (now image) m ⌝ }
     requires { ⌜ Placed (now image) count (now procs) (now tables) ⌝ }
     ensures { λ r. ⌜ ((p : ℕ) → r ≡ carry (passed e) (onward (now (image .entry)) (lightOf count (now (procs .entry)) (now (tables .entry))) m p op b c n (depthOf e))) ⌝ }
 {
@@ -314,30 +298,53 @@ pub fn onward_at(
         return Flow::Fault;
     }
     if op == 0o355 {
-        return call_in(image, wide(b), wide(c), n, e, floor, count, procs, tables);
+        return call_in(image, wide(b), wide(c), n, e, count, procs, tables);
     }
-    call(image, m, callee_of(op, b), n, e, floor)
+    call(image, m, callee_of(op, b), n, e)
+}
+
+// After TRAP or RTN, op, with the mark k.
+fn last(op: u8, k: u32) -> Flow
+    ensures { λ r. ⌜ r ≡ pick (permits k op) Ends Fault ⌝ }
+{
+    if permitted(k, op) {
+        return Flow::Ends;
+    }
+    Flow::Fault
+}
+
+// After STORE or LODFW, op, with the mark k: all words go, or those of the front saved depth come back.
+pub fn moved(op: u8, k: u32, n: usize) -> Flow
+    requires { ⌜ (saving op ≡ true) × (isMark k ≡ true) ⌝ }
+    ensures { λ r. ⌜ ((e : ℕ) → r ≡ pick (permits k op) (To n (leaves k op e)) Fault) ⌝ }
+{
+    if !permitted(k, op) {
+        return Flow::Fault;
+    }
+    if op == 0o262 {
+        return Flow::To(n, store_mark(k));
+    }
+    Flow::To(n, fetch_mark(k))
 }
 
 // The next position and the mark that an instruction's row leaves, where its operands lie in the code and both depths are possible.
 pub enum Row {
     Unfit,
-    Next(usize, u8),
+    Next(usize, u32),
 }
 
-// The row of op at position p of a code of `length` bytes, with a mark, whose depth is d. The mark that it leaves is not computed from d,
-// so that nothing waits for a remainder.
+// The row of op at position p of a code of `length` bytes, with a mark, whose depth is d.
 pub fn row_at(
     op: u8,
     p: usize,
-    mark: u8,
-    d: usize,
+    mark: u32,
+    d: u32,
     length: usize,
     sizes: &[u8; 256],
     takes: &[u8; 256],
     leaves: &[u8; 256],
 ) -> Row
-    requires { ⌜ (p < 65536) × (mark ≤ 84) × (d ≡ depthOf mark) ⌝ }
+    requires { ⌜ (p < 65536) × (isMark mark ≡ true) × (d ≡ depthOf mark) ⌝ }
     requires { ⌜ (now sizes ≡ lengths) × (now takes ≡ takens) × (now leaves ≡ lefts) ⌝ }
     ensures { λ r. ⌜ r ≡ rowAt op p mark length ⌝ }
 {
@@ -353,14 +360,14 @@ pub fn row_at(
     if 16 < d - taken + left {
         return Row::Unfit;
     }
-    Row::Next(n, (wide(mark) - taken + left) as u8)
+    Row::Next(n, mark - taken + left)
 }
 
 // What follows position p of module m with a mark. In the library it has one caller, so that it is compiled in line there.
 pub fn flow_at(
     image: &[u8],
     p: usize,
-    mark: u8,
+    mark: u32,
     count: usize,
     procs: &[u16; 32],
     tables: &[usize; 32],
@@ -370,15 +377,12 @@ pub fn flow_at(
     leaves: &[u8; 256],
     kinds: &[u8; 256],
 ) -> Flow
-    requires { ⌜ p < m .length ⌝ }
+    requires { ⌜ (p < m .length) × (isMark mark ≡ true) ⌝ }
     requires { ⌜ Ready (now image) count (now procs) (now tables) m (now sizes) (now takes) (now leaves) (now kinds) ⌝ }
     ensures { λ r. ⌜ r ≡ flowAt (now (image .entry)) (lightOf count (now (procs .entry)) (now (tables .entry))) m p mark ⌝ }
 {
-    if 84 < mark {
-        return Flow::Fault;
-    }
     let op = image[m.code + p];
-    let d = wide(depth_of(mark));
+    let d = depth_of(mark);
     let row = row_at(op, p, mark, d, m.length as usize, sizes, takes, leaves);
     match row {
         Row::Unfit => Flow::Fault,
@@ -391,19 +395,18 @@ pub fn flow_at(
                 let t = target_at(image, m.code + (p + 1), op, p + 1);
                 return jump(op, t, n, e);
             }
-            if !permitted(e, op) {
-                return Flow::Fault;
-            }
             if kind <= LAST {
-                return Flow::Ends;
+                return last(op, mark);
             }
-            if NAMES < kind {
-                return Flow::Fault;
+            if kind <= NAMES {
+                let b = byte_at(image, m.code + (p + 1));
+                let c = byte_at(image, m.code + (p + 2));
+                return onward_at(image, op, b, c, n, e, count, procs, tables, m);
             }
-            let b = byte_at(image, m.code + (p + 1));
-            let c = byte_at(image, m.code + (p + 2));
-            let floor = floor_of(e);
-            onward_at(image, op, b, c, n, e, floor, count, procs, tables, m)
+            if kind <= SAVES {
+                return moved(op, mark, n);
+            }
+            Flow::Fault
         }
     }
 }

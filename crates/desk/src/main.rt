@@ -1,6 +1,7 @@
 // The desk program: reads an image from standard input and prints "A whole reading" of it: W = 4,096, inputs 0, outputs first 0,
-// n = 1,000. A refusal prints one line: `refused` and its number. Where standard input cannot be read, it prints nothing, and a line
-// on standard error says why.
+// n = 1,000. A refusal prints one line: `refused` and its number. "The desk program's map has 16,384 entries, so a longer image that
+// passes the earlier checks prints refusal 7." Where standard input cannot be read, it prints nothing, and a line on standard error
+// says why.
 use console::files;
 use console::files::Filled;
 use console::print;
@@ -10,7 +11,7 @@ use mcode::Ending;
 
 // The reading of an image.
 fn put_reading(image: &[u8]) {
-    let mut map = [0u8; 65536];
+    let mut map = [0u32; 16384];
     let mut store = [0u16; 4096];
     let mut outputs = [0u16; 16];
     let inputs = [0u16; 16];

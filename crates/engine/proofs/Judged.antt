@@ -11,8 +11,7 @@ use borrow.Author.Tests.{lt-ltb, le-ltb, le-leb, lt-leb, eq-eqb, ne-eqb}
 use Rattle.mcode.specs.Word.{pick, and, or, allBelow}
 use Rattle.mcode.specs.Image.{parse, moduleOf, margin}
 use Rattle.mcode.specs.Layout.{Told}
-use Rattle.mcode.specs.Depths.{depthOf, isMark, markAt, marked, mapFits}
-use Rattle.mcode.proofs.Marks.{depth-few}
+use Rattle.mcode.specs.Depths.{marked, mapFits}
 use Rattle.mcode.specs.Machine.{State, state, isMachine}
 use Rattle.mcode.specs.Run.{storeFits, runRefusal}
 use Rattle.mcode.specs.declared.Registers.{Registers}
@@ -53,9 +52,7 @@ and-false false = refl
 -- no position is marked with a depth above 16
 pub too-deep : (table map : List ℕ) (k q d : ℕ) → 16 < d → standsIn table map k q d ≡ false
 unfolding marked
-too-deep table map k q d h =
-    let x = markAt map (moduleIn table k) q in
-    rw (ne-eqb (depthOf x) d (λ e. omega (arith, depth-few x, e, h)), and-false (isMark x), and-false (ltb q (moduleIn table k .length))) (and-false (ltb k (countIn table)))
+too-deep table map k q d h = rw (lt-leb d 16 h, and-false (ltb q (moduleIn table k .length))) (and-false (ltb k (countIn table)))
 
 -- the test by the lent numbers is the definition's
 pub machine-same : (table map : List ℕ) (program : Program) → Tabled table program → (w : ℕ) (m : Machine) → isMachine program map w m ≡ machineIn table map w m

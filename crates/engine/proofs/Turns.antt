@@ -144,7 +144,7 @@ module _ (image table map inputs : List ℕ) (w : ℕ) (P : Prepared image table
           let x = held r stack store outputs in
           let l = result q st so ou in
           let went = turn-went lent x l (left - 1) e z in
-          let kept = preserves lent (P .told) (P .fits) x (l .state) (G .good) (G .sixteen) went in
+          let kept = preserves lent (P .fits) x (l .state) (G .good) (G .sixteen) went in
           let p : n + 1 - left ≡ n - (left - 1) = omega (arith, G .more) in
           record {
             more = turn-more lent x l (left - 1) e z;

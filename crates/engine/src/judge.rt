@@ -47,7 +47,7 @@ fn is_framed(registers: Registers, w: usize) -> bool
 }
 
 // "A machine has a loaded module, a position marked with its depth, S <= H, H + 24 <= W, P + 8 <= W, and zeros above its depth."
-fn is_machine(machine: Machine, table: &[u16; 193], map: &[u8], w: usize) -> bool
+fn is_machine(machine: Machine, table: &[u16; 193], map: &[u32], w: usize) -> bool
     requires { ⌜ Mapped (now table) (now map) ⌝ }
     ensures { λ r. ⌜ r ≡ machineIn (now (table .entry)) (now (map .entry)) w machine ⌝ }
 {
@@ -81,7 +81,7 @@ fn refused(number: u16) -> Judged
 pub fn judge(
     machine: Machine,
     image: &[u8],
-    map: &[u8],
+    map: &[u32],
     w: usize,
     outs: usize,
     ins: usize,

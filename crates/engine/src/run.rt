@@ -48,7 +48,7 @@ fn steps(
     machine: Machine,
     image: &[u8],
     table: &[u16; 193],
-    map: &[u8],
+    map: &[u32],
     store: &mut [u16],
     inputs: &[u16],
     outputs: &mut [u16],
@@ -96,7 +96,7 @@ fn steps(
 pub fn run(
     machine: Machine,
     image: &[u8],
-    map: &[u8],
+    map: &[u32],
     store: &mut [u16],
     outputs: &mut [u16],
     inputs: &[u16],

@@ -29,7 +29,7 @@ fn no_session(number: u16) -> TwoRuns
 
 pub fn two_runs(
     image: &[u8],
-    map: &mut [u8],
+    map: &mut [u32],
     store: &mut [u16],
     outputs: &mut [u16],
     inputs: &[u16],

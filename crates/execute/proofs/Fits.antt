@@ -8,11 +8,12 @@ use lib.ListN.{getD, length}
 use native.Mathlib.Omega.{arith}
 use Rattle.mcode.specs.Opcode.{lengths, takens, lefts}
 use Rattle.mcode.specs.Image.{parse, moduleOf, codeByte}
-use Rattle.mcode.specs.Depths.{markAt, marksOf}
+use Rattle.mcode.specs.Depths.{permits, entry, markAt, marksOf}
 use Rattle.mcode.specs.Machine.{isMachine, machine}
 use Rattle.mcode.specs.Demands.{OperandsExist, Operands}
 use Rattle.mcode.specs.declared.Module.{Module}
 use Rattle.mcode.specs.declared.Program.{Program}
+use Rattle.mcode.proofs.Marks.{fetch-permitted}
 use Rattle.mcode.proofs.Standing.{Good, good-of, Rules, rules-at, follows-at}
 use Rattle.mcode.proofs.Operands.{operands-exist}
 use Rattle.actions.specs.declared.Core.{Core}
@@ -84,6 +85,7 @@ module _ (image table map : List ℕ) (w : ℕ) (P : Prepared image table map w)
         let whole : at + getD lengths (opcodeAt image r) 0 ≤ u .length = rw (start, place (anchored .own)) at (rules .whole) in
         let end : r .start + u .length ≤ length image = rw start at (sound .within) in
         let bytes : r .pc + getD lengths (opcodeAt image r) 0 ≤ length image = omega (arith, whole, end, anchored .own) in
+        let permitted : permits (entry map (r .pc)) (opcodeAt image r) ≡ true = rw (start, place (anchored .own)) at (rules .permitted) in
         let short : at + getD lengths (opcodeAt image r) 0 ≤ 32767 = omega (arith, whole, sound .short) in
         record {
           listed = λ n. listed-of;
@@ -98,5 +100,7 @@ module _ (image table map : List ℕ) (w : ℕ) (P : Prepared image table map w)
             inside = short;
           };
           mapped = mapped;
+          here = omega (arith, bytes, listed-of, P .covers);
+          front = λ e. fetch-permitted (entry map (r .pc)) (rw e at permitted) .1;
           anchored = anchored;
         }

@@ -17,6 +17,7 @@ use Rattle.mcode.specs.Step.{Lent, stepOf}
 use Rattle.actions.specs.declared.Core.{Core}
 use Rattle.actions.specs.Core.{instruction, performed, spentOp, leftBy, held, operandAt}
 use Rattle.actions.specs.Table.{moduleIn, Lends, Anchored, Needs}
+use Rattle.control.specs.Frames.{Roomy}
 use Rattle.rows_high.specs.Rows.{Stacked}
 use Rattle.execute.specs.Stepping.{Asks, opcodeAt, chosenOp, turned}
 
@@ -79,6 +80,9 @@ module _ {image table map : List ℕ} {w op : ℕ} {r : Core} (a : Asks image ta
   pub stacked : Stacked op r
   stacked = let n = a .controls .ready in record { deep = n .deep; room = n .room; most = n .most; own = n .own; near = n .near }
 
+  pub roomy : Roomy w r
+  roomy = let f = a .controls .framed in (f .low, f .high, f .proc, f .short)
+
   -- an opcode of another row than the spent one's is listed
   pub listed-in : (k : ℕ) → op / 16 ≡ k → eqb k 14 ≡ false → 1 ≤ getD lengths op 0
   listed-in k row n = a .listed (λ e. other-row k row n e)
@@ -101,11 +105,16 @@ module _ {image table map : List ℕ} {w op : ℕ} {r : Core} (a : Asks image ta
           inside = omega (arith, c .inside);
         };
         mapped = a .mapped;
+        here = a .here;
+        front = λ e. absurd (too-high e);
         anchored = a .anchored;
       }
     where
       wrong : (k : ℕ) → spentOp < k → spentOp ≡ k → ⊥
       wrong k h e = omega (arith, h, e)
+
+      too-high : spentOp ≡ 0o260 → ⊥
+      too-high e = omega (arith, e)
 
       too-low : 0o361 ≤ spentOp → ⊥
       too-low l = omega (arith, l)

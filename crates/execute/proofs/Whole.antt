@@ -45,6 +45,6 @@ near-after {image} {table} {map} inputs x P good outs {l} e = by (stepOf (lentTo
   where
     by : (o : Outcome) → stepOf (lentTo image map inputs) x ≡ o → l ≡ leftBy x o → l .state .machine .registers .pc .0 ≤ 32767
     by (go y) s e =
-        let k = preserves (lentTo image map inputs) (P .told) (P .fits) x y good outs s in
+        let k = preserves (lentTo image map inputs) (P .fits) x y good outs s in
         rw e (pc-near P (y .machine) (rw (k .1) at (k .0)))
     by (halt k) s e = rw e (pc-near P (x .machine) good)

@@ -9,7 +9,7 @@ use Rattle.mcode.specs.Word.{pick}
 use Rattle.mcode.specs.Opcode.{lengths}
 use Rattle.mcode.specs.Image.{parse}
 use Rattle.mcode.specs.Layout.{Told}
-use Rattle.mcode.specs.Depths.{namesModule, mapFits}
+use Rattle.mcode.specs.Depths.{frontOf, namesModule, entry, mapFits}
 use Rattle.mcode.specs.Machine.{State, state}
 use Rattle.mcode.specs.Step.{Lent, stepOf}
 use Rattle.actions.specs.declared.Core.{Core}
@@ -22,12 +22,15 @@ use Rattle.execute.specs.declared.steps.Next.{Next}
 abbrev pub opcodeAt : List ℕ → Core → ℕ
 opcodeAt image r = getD image (r .pc) 0
 
--- what the opcode op, listed or the spent one, asks where the registers stand, with a store of w words
+-- what the opcode op, listed or the spent one, asks where the registers stand, with a store of w words; 260 of the recorded front too, "which
+-- must be at most 15"
 pub record Asks (image table map : List ℕ) (w op : ℕ) (r : Core) : Type 0 where
   pub listed : (op ≡ spentOp → ⊥) → 1 ≤ getD lengths op 0
   pub named : namesModule op ≡ true → operandAt image r 1 < countIn table
   pub controls : Controls image table w op r
   pub mapped : Mapped table map
+  pub here : r .pc < length map
+  pub front : op ≡ 0o260 → frontOf (entry map (r .pc)) ≤ 15
   pub anchored : Anchored table r
 
 -- what was tested and made before the first step: the image was read, the map is as long and fits, the store is not too long, and the

@@ -90,7 +90,7 @@ pub fn step(
     machine: Machine,
     image: &[u8],
     table: &[u16; 193],
-    map: &[u8],
+    map: &[u32],
     store: &mut [u16],
     inputs: &[u16],
     outputs: &mut [u16],

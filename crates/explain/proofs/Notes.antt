@@ -15,21 +15,21 @@ use Rattle.mcode.specs.declared.Parsed.{Parsed}
 use Rattle.mcode.specs.declared.Program.{Program}
 use Rattle.mcode.specs.Word.{pick}
 use Rattle.mcode.specs.Image.{parse, moduleOf}
-use Rattle.mcode.specs.Depths.{Fewest}
+use Rattle.mcode.specs.Depths.{unmarked, Fewest}
 use Rattle.mcode.specs.Walk.{walk, causeAt, Reached}
 use Rattle.mcode.proofs.Reached.{walk-reached}
 use Rattle.depths.specs.Lent.{Copied}
 use Rattle.depths.proofs.Lists.{getD-any}
 use Rattle.walk.specs.Set.{counted}
 use Rattle.loader.proofs.Walked.{cause-same}
-use Rattle.explain.specs.Shown.{causeNumber, depthMark, Noted, Shown, AllShown, ShownOf}
+use Rattle.explain.specs.Shown.{causeNumber, noDepth, depthMark, Noted, Shown, AllShown, ShownOf}
 
-depth-real : (x : ℕ) → depthMark x ≡ 255 → ⊥
-depth-real x = go (eqb x 255) refl
+depth-real : (x : ℕ) → depthMark x ≡ unmarked → ⊥
+depth-real x = go (eqb x unmarked) refl
   where
-    go : (t : Bool) → eqb x 255 ≡ t → pick t 254 x ≡ 255 → ⊥
+    go : (t : Bool) → eqb x unmarked ≡ t → pick t noDepth x ≡ unmarked → ⊥
     go true e z = omega (arith, z)
-    go false e z = eqb-false x 255 e z
+    go false e z = eqb-false x unmarked e z
 
 module _ (image : List ℕ) (program : Program) (m : Module) where
   pub record Begun (first map notes : List ℕ) (p : ℕ) : Type 0 where
@@ -44,13 +44,13 @@ module _ (image : List ℕ) (program : Program) (m : Module) where
 
     module _ (map notes : List ℕ) (p : ℕ) (B : Begun first map notes p) (l : p < m .length) where
       -- position p has not been noted yet
-      same : getD notes p 0 ≡ getD first p 255
-      same = B .rest p (omega arith) ∙ getD-any first p 0 255 (omega (arith, l, W .fits .sized))
+      same : getD notes p 0 ≡ getD first p unmarked
+      same = B .rest p (omega arith) ∙ getD-any first p 0 unmarked (omega (arith, l, W .fits .sized))
 
-      unreached : getD notes p 0 ≡ 255 → Reached image m p → ⊥
+      unreached : getD notes p 0 ≡ unmarked → Reached image m p → ⊥
       unreached e r = walk-reached image m first W p .1 r (sym same ∙ e)
 
-      reached : (getD notes p 0 ≡ 255 → ⊥) → Reached image m p
+      reached : (getD notes p 0 ≡ unmarked → ⊥) → Reached image m p
       reached n = walk-reached image m first W p .0 (λ z. n (same ∙ z))
 
       -- both lists with new numbers at p
@@ -65,7 +65,7 @@ module _ (image : List ℕ) (program : Program) (m : Module) where
       }
 
       pub one-more : (map′ notes′ : List ℕ) → Noted image program m p map notes map′ notes′ → Begun first map′ notes′ (p + 1)
-      one-more map′ notes′ (inl (e, a, b)) = rw (a, b) (put 255 0 (inl (unreached e, refl, refl)))
+      one-more map′ notes′ (inl (e, a, b)) = rw (a, b) (put unmarked 0 (inl (unreached e, refl, refl)))
       one-more map′ notes′ (inr (n, a, b)) = rw (a, b) (put (depthMark (getD map p 0)) (causeNumber (causeAt image program m p)) (inr (reached n, depth-real (getD map p 0), refl)))
 
 -- what is shown by the lent counts is shown of the program

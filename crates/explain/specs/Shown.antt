@@ -7,6 +7,7 @@ use lib.ListN.{length, getD, set}
 use lib.Dec.{eqb}
 use Rattle.mcode.specs.Word.{pick}
 use Rattle.mcode.specs.Image.{parse, moduleOf}
+use Rattle.mcode.specs.Depths.{unmarked}
 use Rattle.mcode.specs.Walk.{causeAt, Reached}
 use Rattle.mcode.specs.declared.Module.{Module}
 use Rattle.mcode.specs.declared.Program.{Program}
@@ -20,21 +21,24 @@ causeNumber Operands = 2
 causeNumber Name = 3
 causeNumber Successor = 4
 
--- the mark of a position that is reached: 254 where no depth was found
-abbrev pub depthMark : ℕ → ℕ
-depthMark x = pick (eqb x 255) 254 x
+-- the mark of a position that is reached, where no depth was found: no encoding, and not the number of an unmarked one
+abbrev pub noDepth : ℕ
+noDepth = 0xffff_fffe
 
--- a position that is not reached has nothing but FF, and one that is reached its mark and its cause
+abbrev pub depthMark : ℕ → ℕ
+depthMark x = pick (eqb x unmarked) noDepth x
+
+-- a position that is not reached has no mark, and one that is reached its mark and its cause
 abbrev pub Noted : List ℕ → Program → Module → ℕ → List ℕ → List ℕ → List ℕ → List ℕ → Type 0
 Noted image program m p map notes map′ notes′ =
-    ((getD notes p 0 ≡ 255) × (map′ ≡ set map p 255) × (notes′ ≡ set notes p 0))
-    ⊎ ((getD notes p 0 ≡ 255 → ⊥) × (map′ ≡ set map p (depthMark (getD map p 0))) × (notes′ ≡ set notes p (causeNumber (causeAt image program m p))))
+    ((getD notes p 0 ≡ unmarked) × (map′ ≡ set map p unmarked) × (notes′ ≡ set notes p 0))
+    ⊎ ((getD notes p 0 ≡ unmarked → ⊥) × (map′ ≡ set map p (depthMark (getD map p 0))) × (notes′ ≡ set notes p (causeNumber (causeAt image program m p))))
 
 -- position p with its mark x and what is noted of it
 abbrev pub Shown : List ℕ → Program → Module → ℕ → ℕ → ℕ → Type 0
 Shown image program m p x note =
-    ((Reached image m p → ⊥) × (x ≡ 255) × (note ≡ 0))
-    ⊎ (Reached image m p × (x ≡ 255 → ⊥) × (note ≡ causeNumber (causeAt image program m p)))
+    ((Reached image m p → ⊥) × (x ≡ unmarked) × (note ≡ 0))
+    ⊎ (Reached image m p × (x ≡ unmarked → ⊥) × (note ≡ causeNumber (causeAt image program m p)))
 
 abbrev pub AllShown : List ℕ → Program → Module → List ℕ → List ℕ → Type 0
 AllShown image program m map notes = (p : ℕ) → p < m .length → Shown image program m p (getD map p 0) (getD notes p 0)

@@ -1,7 +1,7 @@
 // Why load refuses the code of an image: with 13 what is wrong at the place that it names, with 8 a place where depths meet or a rule
-// fails. `misfit` looks for that place, `marks` says of each position what a listing of such code shows.
-pub mod marks;
+// fails. `misfit` looks for that place, `shown` says of each position what a listing of such code shows.
 pub mod misfit;
+pub mod shown;
 
 use crate::misfit::first_misfit;
 use mcode::Cause;
@@ -18,9 +18,9 @@ ghost use Rattle.explain.specs.Reason.{faultThere, Reasoned};
 pub enum Why {
     Unknown,
     Fault(u8, u16, u8, Cause),
-    Meet(u8, u16, u8, u8, u8),
-    Rule(u8, u16, u8, u8),
-    Call(u8, u16, u8, u8, u8),
+    Meet(u8, u16, u8, u32, u32),
+    Rule(u8, u16, u8, u32),
+    Call(u8, u16, u8, u32, u8),
 }
 
 // What is wrong at position p of module k.
@@ -44,7 +44,7 @@ fn fault_at(image: &[u8], program: Program, k: u8, p: u16) -> Why
 
 // Why load refuses the image with 13 or 8: unknown where it answers something else. The map is lent for the search; what it holds before
 // and after does not matter.
-pub fn reason(image: &[u8], map: &mut [u8]) -> Why
+pub fn reason(image: &[u8], map: &mut [u32]) -> Why
     ensures { λ r. ⌜ Reasoned (now (image .entry)) (now (map .entry)) r ⌝ }
 {
     let verdict = loader::load::load(image, map);

@@ -3,13 +3,15 @@
 use crate::Why;
 use depths::rules::byte_at;
 use depths::rules::callee_of;
-use depths::rules::depth_of;
 use depths::rules::entry_mark;
 use depths::rules::entry_of;
 use depths::rules::flow_at;
 use depths::rules::params_of;
 use depths::rules::proc_count;
 use depths::rules::wide;
+use marks::UNMARKED;
+use marks::depth_of;
+use marks::is_mark;
 use mcode::Flow;
 use mcode::Module;
 use mcode::Program;
@@ -46,7 +48,7 @@ fn lower(a: Why, b: Why) -> Why
 }
 
 // Position q, for which the mark d is asked: whether it has another one.
-fn met(image: &[u8], map: &[u8], k: u8, q: usize, d: u8, m: Module) -> Why
+fn met(image: &[u8], map: &[u32], k: u8, q: usize, d: u32, m: Module) -> Why
     requires { ⌜ Sound (now image) m × (length (now map) ≡ m .length) ⌝ }
     ensures { λ r. ⌜ ((program : Programs) → AtPlace (now (image .entry)) program m k r) ⌝ }
 {
@@ -54,7 +56,7 @@ fn met(image: &[u8], map: &[u8], k: u8, q: usize, d: u8, m: Module) -> Why
         return Why::Unknown;
     }
     let mark = map[q];
-    if mark == 255 {
+    if mark == UNMARKED {
         return Why::Unknown;
     }
     if mark == d {
@@ -64,7 +66,7 @@ fn met(image: &[u8], map: &[u8], k: u8, q: usize, d: u8, m: Module) -> Why
 }
 
 // Whether an entry has another mark than the one that is asked for it.
-fn entries_met(image: &[u8], map: &[u8], k: u8, m: Module) -> Why
+fn entries_met(image: &[u8], map: &[u32], k: u8, m: Module) -> Why
     requires { ⌜ Sound (now image) m × (length (now map) ≡ m .length) ⌝ }
     ensures { λ r. ⌜ ((program : Programs) → AtPlace (now (image .entry)) program m k r) ⌝ }
 {
@@ -118,7 +120,7 @@ fn forbidden(
     image: &[u8],
     k: u8,
     p: usize,
-    mark: u8,
+    mark: u32,
     count: usize,
     procs: &[u16; 32],
     tables: &[usize; 32],
@@ -132,7 +134,7 @@ fn forbidden(
     if op < 0o355 {
         return Why::Rule(k, p as u16, op, mark);
     }
-    if depth_of(mark) < mcode::opcode::taken_of(op) {
+    if depth_of(mark) < mcode::opcode::taken_of(op) as u32 {
         return Why::Rule(k, p as u16, op, mark);
     }
     let b = byte_at(image, m.code + (p + 1));
@@ -144,10 +146,10 @@ fn forbidden(
 // Position p, where it is marked: whether the rules do not allow its mark, or a successor has another one than is asked for it.
 fn followed(
     image: &[u8],
-    map: &[u8],
+    map: &[u32],
     k: u8,
     p: usize,
-    mark: u8,
+    mark: u32,
     count: usize,
     procs: &[u16; 32],
     tables: &[usize; 32],
@@ -161,7 +163,7 @@ fn followed(
     requires { ⌜ (p < m .length) × (length (now map) ≡ m .length) ⌝ }
     ensures { λ r. ⌜ AtPlace (now (image .entry)) (lightOf count (now (procs .entry)) (now (tables .entry))) m k r ⌝ }
 {
-    if mark == 255 {
+    if !is_mark(mark) {
         return Why::Unknown;
     }
     let f = flow_at(
@@ -192,7 +194,7 @@ fn followed(
 // The lowest place among the entries and the marked positions of module m, which is number k.
 fn lowest(
     image: &[u8],
-    map: &[u8],
+    map: &[u32],
     k: u8,
     count: usize,
     procs: &[u16; 32],
@@ -234,7 +236,7 @@ fn lowest(
 // The same, where the search finds no depths that fit. `map` is the module's part, and `work` for the queue.
 fn module_misfit(
     image: &[u8],
-    map: &mut [u8],
+    map: &mut [u32],
     work: &mut [u16],
     k: u8,
     count: usize,
@@ -282,7 +284,7 @@ fn module_misfit(
 }
 
 // The place in the first module that has one.
-pub fn first_misfit(image: &[u8], program: Program, map: &mut [u8]) -> Why
+pub fn first_misfit(image: &[u8], program: Program, map: &mut [u32]) -> Why
     requires { ⌜ Told (now image) program ⌝ }
     requires { ⌜ length (now image) ≤ length (now map) ⌝ }
     ensures { λ r. ⌜ Explained (now (image .entry)) program r ⌝ }

@@ -7,7 +7,6 @@ use native.Mathlib.Omega.{arith}
 use lib.ListN.{length}
 use borrow.Author.Tests.{ne-eqb}
 use Rattle.mcode.specs.Image.{parse}
-use Rattle.mcode.specs.Layout.{Told}
 use Rattle.mcode.specs.Depths.{mapFits}
 use Rattle.mcode.specs.Machine.{State, isMachine, go}
 use Rattle.mcode.specs.Step.{Lent, stepOf}
@@ -37,11 +36,11 @@ module _ (image map inputs : List ℕ) (n : ℕ) where
   begins x o g = record { most = omega arith; sized = refl; sixteen = o; good = g; rest = compose.begin (stepOf lent) n x }
 
   module _ (w : ℕ) (first : State) (count : ℕ) (x : State) (G : Onward image map inputs w n first count x) (l : Left) where
-    pub goes-on : Told image (parse image .program) → mapFits image (parse image .program) map ≡ true → count < n → l ≡ leftBy x (stepOf lent x) → l .stop ≡ 0 → Onward image map inputs w n first (count + 1) (l .state)
+    pub goes-on : mapFits image (parse image .program) map ≡ true → count < n → l ≡ leftBy x (stepOf lent x) → l .stop ≡ 0 → Onward image map inputs w n first (count + 1) (l .state)
     unfolding Preserves
-    goes-on told fits less e z =
+    goes-on fits less e z =
         let went : stepOf lent x ≡ go (l .state) = went-on x (stepOf lent x) l e z in
-        let kept = preserves lent told fits x (l .state) (G .good) (G .sixteen) went in
+        let kept = preserves lent fits x (l .state) (G .good) (G .sixteen) went in
         record {
           most = omega (arith, less);
           sized = kept .1 ∙ G .sized;

@@ -10,7 +10,7 @@ ghost use Rattle.in_place.specs.Whole.{Reads};
 // The first refusal, of load, start or run, ends it.
 pub fn reading(
     image: &[u8],
-    map: &mut [u8],
+    map: &mut [u32],
     store: &mut [u16],
     outputs: &mut [u16],
     inputs: &[u16],

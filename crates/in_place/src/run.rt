@@ -27,7 +27,7 @@ fn steps_in_place(
     machine: Machine,
     image: &[u8],
     table: &[u16; 193],
-    map: &[u8],
+    map: &[u32],
     store: &mut [u16],
     inputs: &[u16],
     outputs: &mut [u16],
@@ -59,7 +59,7 @@ fn steps_in_place(
 pub fn run(
     machine: Machine,
     image: &[u8],
-    map: &[u8],
+    map: &[u32],
     store: &mut [u16],
     outputs: &mut [u16],
     inputs: &[u16],

@@ -22,7 +22,7 @@ pub fn step_in_place(
     machine: &mut Machine,
     image: &[u8],
     table: &[u16; 193],
-    map: &[u8],
+    map: &[u32],
     store: &mut [u16],
     inputs: &[u16],
     outputs: &mut [u16],

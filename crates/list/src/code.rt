@@ -1,13 +1,16 @@
 // A module's code, one line an instruction.
-use explain::marks;
+use explain::shown;
 use listing::block::Block;
 use listing::block::text;
 use listing::bytes::byte_from;
 use listing::causes::words_length;
 use listing::causes::words_of;
+use listing::cell::cell_of;
 use listing::instruction::Instruction;
 use listing::instruction::instruction_at;
 use listing::print::blanks;
+use listing::print::fill;
+use listing::print::first;
 use listing::print::hex;
 use listing::print::instruction;
 use listing::print::name;
@@ -16,6 +19,7 @@ use listing::print::octal;
 use listing::print::right;
 use listing::procedure::entered;
 use listing::search::marked_from;
+use marks::UNMARKED;
 use mcode::Cause;
 use mcode::Module;
 ghost use mathlib.Core.Path.{_≡_};
@@ -31,20 +35,17 @@ fn put_place(out: &mut Block, used: &mut usize, p: usize) {
     right(out, used, p as u64, 6);
 }
 
-// The depth of a mark, and its results beside it where there are any; - where no depth was found.
-fn put_depth(out: &mut Block, used: &mut usize, mark: u8) {
-    if mark == marks::NO_DEPTH {
+// A mark at the right end of its column; one of more than 5 letters pushes the rest of the line to the right. - where no depth was found.
+fn put_depth(out: &mut Block, used: &mut usize, mark: u32) {
+    if mark == shown::NO_DEPTH {
         put_no_depth(out, used);
         return;
     }
-    let depth = depths::rules::depth_of(mark) as u64;
-    let results = depths::rules::promised_of(mark) as u64;
-    if results == 0 {
-        right(out, used, depth, 7);
-    } else {
-        right(out, used, depth, 5);
-        named(out, used, b"/", results);
-    }
+    let cell = cell_of(mark);
+    let letters = cell.letters;
+    blanks(out, used, 2);
+    fill(out, used, cell.count, 5);
+    first(out, used, &letters, cell.count);
     blanks(out, used, 2);
 }
 
@@ -108,23 +109,19 @@ fn put_instruction(
 
 fn put_cause(out: &mut Block, used: &mut usize, cause: Cause) {
     let letters = words_of(cause);
-    let n = words_length(cause);
-    let all: &[u8] = &letters;
     text(out, used, b"  <- ");
-    if n <= all.len() {
-        text(out, used, &all[0..n]);
-    }
+    first(out, used, &letters, words_length(cause));
 }
 
 // What is wrong with an instruction, at the end of its line.
-fn put_note(out: &mut Block, used: &mut usize, note: u8) {
+fn put_note(out: &mut Block, used: &mut usize, note: u32) {
     match note {
-        marks::OPCODE => put_cause(out, used, Cause::Opcode),
-        marks::OPERANDS => put_cause(out, used, Cause::Operands),
-        marks::NAME => put_cause(out, used, Cause::Name),
-        marks::SUCCESSOR => put_cause(out, used, Cause::Successor),
-        marks::MEET => text(out, used, b"  <- two depths meet"),
-        marks::RULE => text(out, used, b"  <- the depth does not fit"),
+        shown::OPCODE => put_cause(out, used, Cause::Opcode),
+        shown::OPERANDS => put_cause(out, used, Cause::Operands),
+        shown::NAME => put_cause(out, used, Cause::Name),
+        shown::SUCCESSOR => put_cause(out, used, Cause::Successor),
+        shown::MEET => text(out, used, b"  <- two depths meet"),
+        shown::RULE => text(out, used, b"  <- the depth does not fit"),
         _ => {}
     }
 }
@@ -154,8 +151,8 @@ fn put_marked(
     image: &[u8],
     m: Module,
     p: u16,
-    mark: u8,
-    note: u8,
+    mark: u32,
+    note: u32,
 ) -> usize {
     put_labels(out, used, image, m, p);
     let i = instruction_at(image, m, p);
@@ -168,7 +165,7 @@ fn put_marked(
 }
 
 // The end of the unmarked bytes from `at` on, of which a line shows at most 8.
-fn unmarked_end(marks: &[u8], at: usize) -> usize
+fn unmarked_end(marks: &[u32], at: usize) -> usize
     requires { ⌜ at < 65536 ⌝ }
     ensures { λ r. ⌜ at < r ⌝ }
 {
@@ -185,7 +182,7 @@ fn put_unreached(
     used: &mut usize,
     image: &[u8],
     m: Module,
-    marks: &[u8],
+    marks: &[u32],
     at: usize,
 ) -> usize
     requires { ⌜ at < 65536 ⌝ }
@@ -205,19 +202,18 @@ fn put_line(
     used: &mut usize,
     image: &[u8],
     m: Module,
-    marks: &[u8],
-    notes: &[u8],
+    marks: &[u32],
+    notes: &[u32],
     here: Place,
 ) -> Place
-    requires { ⌜ (here .at < length (now marks)) × (here .at < 65536) ⌝ }
+    requires { ⌜ (here .at < length (now marks)) × (here .at < length (now notes)) × (here .at < 65536) ⌝ }
     ensures { λ r. ⌜ here .at < r .at ⌝ }
 {
     let at = here.at;
     let shown = here.shown;
     let mark = marks[at];
-    if mark != 0xff {
-        let note = byte_from(notes, 0, at);
-        let e = put_marked(out, used, image, m, at as u16, mark, note);
+    if mark != UNMARKED {
+        let e = put_marked(out, used, image, m, at as u16, mark, notes[at]);
         return Place {
             at: at + 1,
             shown: largest(shown, e),
@@ -236,10 +232,10 @@ pub fn put_code(
     used: &mut usize,
     image: &[u8],
     m: Module,
-    marks: &[u8],
-    notes: &[u8],
+    marks: &[u32],
+    notes: &[u32],
 )
-    requires { ⌜ length (now marks) ≡ m .length ⌝ }
+    requires { ⌜ (length (now marks) ≡ m .length) × (length (now notes) ≡ m .length) ⌝ }
 {
     let mut here = Place { at: 0, shown: 0 };
     while here.at < marks.len() {

@@ -12,7 +12,8 @@ fn text(letters: &[u8]) {
 fn put_columns() {
     text(b"  pos          position in the module's code\n");
     text(b"  depth        words on the operand stack before it, as load marks it; with /n in a\n");
-    text(b"               procedure that promises n results\n");
+    text(b"               procedure that promises n results, and +d for each depth that STORE\n");
+    text(b"               saved, the last one first\n");
     text(b"  bytes        opcode and operands, in hex\n");
     text(b"  instruction  name and operands; a jump shows the position that it goes to\n\n");
 }

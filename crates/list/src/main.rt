@@ -79,8 +79,8 @@ fn list_bytes(
     name: &[u8],
     image: &mut [u8],
     n: usize,
-    map: &mut [u8],
-    notes: &mut [u8],
+    map: &mut [u32],
+    notes: &mut [u32],
 ) {
     if 65535 < n {
         refusal(b"list", name, 1, Place::Unknown);
@@ -100,8 +100,8 @@ fn list_file(out: &mut Block, used: &mut usize, i: usize) {
     let length = os::arg(i, &mut buffer);
     let name = &buffer[..length];
     let mut image = io::large_buffer();
-    let mut map = io::large_buffer();
-    let mut notes = io::large_buffer();
+    let mut map = [0u32; 65535];
+    let mut notes = [0u32; 65535];
     match contents(b"list", name, &mut image) {
         Filled::Failed => {}
         Filled::Bytes(n) => list_bytes(out, used, i, name, &mut image, n, &mut map, &mut notes),

@@ -7,7 +7,7 @@ use console::print::line_end;
 use console::print::refusal;
 use console::print::refused_as;
 use explain::Why;
-use explain::marks;
+use explain::shown;
 use libc::STDOUT_FILENO;
 use listing::block::Block;
 use listing::block::flush;
@@ -59,7 +59,7 @@ fn put_module_line(out: &mut Block, used: &mut usize, number: usize, m: Module) 
 }
 
 // Notes the place p of module k in the notes of that module's code.
-fn note(notes: &mut [u8], k: usize, unit: u8, p: u16, what: u8) {
+fn note(notes: &mut [u32], k: usize, unit: u8, p: u16, what: u32) {
     let at = p as usize;
     if unit as usize == k {
         if at < notes.len() {
@@ -69,20 +69,20 @@ fn note(notes: &mut [u8], k: usize, unit: u8, p: u16, what: u8) {
 }
 
 // With 8, where the depths do not fit. (What 13 is about is noted by the marks.)
-fn note_why(notes: &mut [u8], k: usize, why: Why) {
+fn note_why(notes: &mut [u32], k: usize, why: Why) {
     match why {
         Why::Unknown => {}
         Why::Fault(_, _, _, _) => {}
-        Why::Meet(unit, p, _, _, _) => note(notes, k, unit, p, marks::MEET),
-        Why::Rule(unit, p, _, _) => note(notes, k, unit, p, marks::RULE),
-        Why::Call(unit, p, _, _, _) => note(notes, k, unit, p, marks::RULE),
+        Why::Meet(unit, p, _, _, _) => note(notes, k, unit, p, shown::MEET),
+        Why::Rule(unit, p, _, _) => note(notes, k, unit, p, shown::RULE),
+        Why::Call(unit, p, _, _, _) => note(notes, k, unit, p, shown::RULE),
     }
 }
 
 // Where load refused, the parts of the map and of the notes are filled with what is shown of module k.
-fn fill(image: &[u8], map: &mut [u8], notes: &mut [u8], k: usize, refused: bool, why: Why) {
+fn fill(image: &[u8], map: &mut [u32], notes: &mut [u32], k: usize, refused: bool, why: Why) {
     if refused {
-        marks::mark_module(image, map, notes, k);
+        shown::mark_module(image, map, notes, k);
         note_why(notes, k, why);
     }
 }
@@ -92,8 +92,8 @@ fn put_part(
     out: &mut Block,
     used: &mut usize,
     image: &[u8],
-    map: &mut [u8],
-    notes: &mut [u8],
+    map: &mut [u32],
+    notes: &mut [u32],
     k: usize,
     m: Module,
     refused: bool,
@@ -109,8 +109,8 @@ fn put_module(
     out: &mut Block,
     used: &mut usize,
     image: &[u8],
-    map: &mut [u8],
-    notes: &mut [u8],
+    map: &mut [u32],
+    notes: &mut [u32],
     k: usize,
     m: Module,
     refused: bool,
@@ -148,8 +148,8 @@ fn put_modules(
     out: &mut Block,
     used: &mut usize,
     image: &[u8],
-    map: &mut [u8],
-    notes: &mut [u8],
+    map: &mut [u32],
+    notes: &mut [u32],
     program: Program,
     refused: bool,
     why: Why,
@@ -181,8 +181,8 @@ pub fn put_image(
     used: &mut usize,
     name: &[u8],
     image: &mut [u8],
-    map: &mut [u8],
-    notes: &mut [u8],
+    map: &mut [u32],
+    notes: &mut [u32],
 ) {
     let parsed = image::read_image(image);
     let program = parsed.program;

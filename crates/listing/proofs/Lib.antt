@@ -1,3 +1,4 @@
 pub mod Table
 pub mod Least
 pub mod Waiting
+pub mod Cells

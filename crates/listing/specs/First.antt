@@ -5,8 +5,9 @@ use mathlib.Core.Bool.{Bool, true, false, not}
 use mathlib.Core.List.{List}
 use lib.Dec.{eqb}
 use lib.ListN.{getD}
-use Rattle.mcode.specs.Word.{pick, byte}
+use Rattle.mcode.specs.Word.{pick}
 use Rattle.mcode.specs.Image.{entryOf}
+use Rattle.mcode.specs.Depths.{unmarked, entry}
 use Rattle.mcode.specs.declared.Module.{Module}
 
 -- of the n numbers from i on, the first that passes; where none does, the number after them
@@ -32,7 +33,7 @@ differ before after i = not (eqb (getD before i 0) (getD after i 0))
 
 -- position i is marked
 abbrev pub isMarked : List ℕ → ℕ → Bool
-isMarked marks i = not (eqb (byte marks i) 0xff)
+isMarked marks i = not (eqb (entry marks i) unmarked)
 
 -- procedure i of module m enters at p
 abbrev pub enters : List ℕ → Module → ℕ → ℕ → Bool

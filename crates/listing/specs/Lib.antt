@@ -2,3 +2,4 @@ pub mod Mnemonics
 pub mod Shape
 pub mod First
 pub mod Waiting
+pub mod Cell

@@ -29,7 +29,7 @@ letters =
     "LSW  LSD  LSD0           LXB  LXW       DADD DSUB                               " ++
     "SSW  SSD  SSD0           SXB  SXW                                               " ++
     "READ WRITE               UCHK                     ULSS ULEQ UGTR UGEQ TRA       " ++
-    "                         COPT           UADD USUB UMUL UDIV UMOD ROR  SHL  SHR  " ++
+    "LODFW     STORE          COPT           UADD USUB UMUL UDIV UMOD ROR  SHL  SHR  " ++
     "                    TRAP CHK  CHKZ      EQL  NEQ  LSS  LEQ  GTR  GEQ  ABS  NEG  " ++
     "OR   XOR  AND  COM                 NOT  ADD  SUB  MUL  DIV            NOP       " ++
     "                                        GB   GB1       ENTR RTN  CX   CI        " ++

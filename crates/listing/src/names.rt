@@ -16,7 +16,7 @@ pub const NAMES: [u8; 1280] = *b"\
     LSW  LSD  LSD0           LXB  LXW       DADD DSUB                               \
     SSW  SSD  SSD0           SXB  SXW                                               \
     READ WRITE               UCHK                     ULSS ULEQ UGTR UGEQ TRA       \
-    \x20                        COPT           UADD USUB UMUL UDIV UMOD ROR  SHL  SHR  \
+    LODFW     STORE          COPT           UADD USUB UMUL UDIV UMOD ROR  SHL  SHR  \
     \x20                   TRAP CHK  CHKZ      EQL  NEQ  LSS  LEQ  GTR  GEQ  ABS  NEG  \
     OR   XOR  AND  COM                 NOT  ADD  SUB  MUL  DIV            NOP       \
     \x20                                       GB   GB1       ENTR RTN  CX   CI        \

@@ -13,13 +13,17 @@ ghost use Prim.Native.Nat.{_≤_};
 
 const DIGITS: [u8; 16] = *b"0123456789ABCDEF";
 
+// The first n letters.
+pub fn first(out: &mut Block, used: &mut usize, letters: &[u8], n: usize) {
+    if n <= letters.len() {
+        text(out, used, &letters[0..n]);
+    }
+}
+
 // At most 32 blanks.
 pub fn blanks(out: &mut Block, used: &mut usize, n: usize) {
     let line = [b' '; 32];
-    let all: &[u8] = &line;
-    if n <= all.len() {
-        text(out, used, &all[0..n]);
-    }
+    first(out, used, &line, n);
 }
 
 // Blanks up to a width, of which some columns are taken.
@@ -75,10 +79,7 @@ pub fn name(out: &mut Block, used: &mut usize, op: u8) -> usize
 {
     let letters = name_of(op);
     let n = name_length(letters);
-    let all: &[u8] = &letters;
-    if n <= all.len() {
-        text(out, used, &all[0..n]);
-    }
+    first(out, used, &letters, n);
     n
 }
 

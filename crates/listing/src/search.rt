@@ -1,5 +1,6 @@
 // Searches from a place on.
 use crate::bytes::word_at;
+use marks::UNMARKED;
 ghost use mathlib.Core.Path.{_≡_};
 ghost use Prim.Native.Nat.{_-_, _≤_};
 ghost use lib.ListN.{length};
@@ -21,12 +22,12 @@ pub fn changed(before: &[u16], after: &[u16], from: usize) -> usize
 }
 
 // The first position, from `from` on, that is marked; the number of the marks where there is none.
-pub fn marked_from(marks: &[u8], from: usize) -> usize
+pub fn marked_from(marks: &[u32], from: usize) -> usize
     ensures { λ r. ⌜ (r ≡ firstFrom (isMarked (now (marks .entry))) (length (now (marks .entry)) - from) from) × (from ≤ r) ⌝ }
 {
     let mut i = from;
     while i < marks.len() {
-        if marks[i] != 0xff {
+        if marks[i] != UNMARKED {
             return i;
         }
         i += 1;

@@ -10,9 +10,8 @@ use borrow.Author.Count.{below-more}
 use borrow.Rule.Slice.PartMut.{putMid, same-len-mid}
 use lib.ListN.{length, replicate, getD-replicate, length-replicate}
 use Rattle.mcode.specs.declared.Program.{Program}
-use Rattle.mcode.specs.Word.{byte}
 use Rattle.mcode.specs.Image.{moduleOf}
-use Rattle.mcode.specs.Depths.{Analysis, Fewest, depths, KeptPast, Accepted}
+use Rattle.mcode.specs.Depths.{unmarked, entry, Analysis, Fewest, depths, KeptPast, Accepted}
 use Rattle.mcode.specs.Layout.{Told}
 use Rattle.depths.proofs.Parts.{part, length-part, part-same, part-at, put-part, put-before, put-after}
 use Rattle.depths.proofs.Whole.{from, to, part-is, in-code}
@@ -21,22 +20,22 @@ pub kept-trans : (image a b c : List ℕ) → KeptPast image a b → KeptPast im
 kept-trans image a b c K L = record { long = L .long ∙ K .long; past = λ p h. L .past p h ∙ K .past p h }
 
 -- the part of the map over the image came back as ys, all FF
-module _ (image map ys : List ℕ) (long : length image ≤ length map) (e : ys ≡ replicate (length (part map 0 (length image))) 255) where
+module _ (image map ys : List ℕ) (long : length image ≤ length map) (e : ys ≡ replicate (length (part map 0 (length image))) unmarked) where
   abbrev blanked : List ℕ
   blanked = putMid 0 (length image - 0) map ys
 
-  ys-is : ys ≡ replicate (length image) 255
+  ys-is : ys ≡ replicate (length image) unmarked
   ys-is = let n : length (part map 0 (length image)) ≡ length image = length-part map 0 (length image) long ∙ omega arith in rw n at e
 
   len-ys : length ys ≡ length image - 0
-  len-ys = ap length ys-is ∙ length-replicate (length image) 255 ∙ omega arith
+  len-ys = ap length ys-is ∙ length-replicate (length image) unmarked ∙ omega arith
 
-  pub blank-marks : (p : ℕ) → p < length image → byte blanked p ≡ 255
+  pub blank-marks : (p : ℕ) → p < length image → entry blanked p ≡ unmarked
   blank-marks p h =
       let l : p < length image - 0 = omega arith in
-      sym (part-at blanked 0 (length image) p 0 l ∙ ap (byte blanked) (omega arith))
-      ∙ ap (λ (z : List ℕ). byte z p) (put-part 0 (length image) map ys (omega arith) long len-ys ∙ ys-is)
-      ∙ getD-replicate (length image) p 255 0 h
+      sym (part-at blanked 0 (length image) p 0 l ∙ ap (entry blanked) (omega arith))
+      ∙ ap (λ (z : List ℕ). entry z p) (put-part 0 (length image) map ys (omega arith) long len-ys ∙ ys-is)
+      ∙ getD-replicate (length image) p unmarked 0 h
 
   pub blank-kept : KeptPast image map blanked
   blank-kept = record {
@@ -54,9 +53,9 @@ InCode program n p = (k : ℕ) × (k < n) × (from program k ≤ p) × (p < to p
 -- the first n modules have their fewest assignments, and the rest of the image is unmarked
 pub record Filled (image : List ℕ) (program : Program) (n : ℕ) (map : List ℕ) : Type 0 where
   pub fewest : (k : ℕ) → k < n → Fewest (An image program k) (part map (from program k) (to program k))
-  pub outside : (p : ℕ) → p < length image → (InCode program n p → ⊥) → byte map p ≡ 255
+  pub outside : (p : ℕ) → p < length image → (InCode program n p → ⊥) → entry map p ≡ unmarked
 
-pub none-filled : (image : List ℕ) (program : Program) (map : List ℕ) → ((p : ℕ) → p < length image → byte map p ≡ 255) → Filled image program 0 map
+pub none-filled : (image : List ℕ) (program : Program) (map : List ℕ) → ((p : ℕ) → p < length image → entry map p ≡ unmarked) → Filled image program 0 map
 none-filled image program map f = record {
   fewest = λ k l. absurd (not-suc-le-zero l);
   outside = λ p l n. f p l;
@@ -77,10 +76,10 @@ module _ (image : List ℕ) (program : Program) (T : Told image program) (map ys
   len : length ys ≡ to program k - from program k
   len = l ∙ length-part map (from program k) (to program k) in-map
 
-  before : (p : ℕ) → p < from program k → byte put p ≡ byte map p
+  before : (p : ℕ) → p < from program k → entry put p ≡ entry map p
   before p h = put-before (from program k) (to program k) map ys up in-map len p 0 h
 
-  after : (p : ℕ) → to program k ≤ p → byte put p ≡ byte map p
+  after : (p : ℕ) → to program k ≤ p → entry put p ≡ entry map p
   after p h = put-after (from program k) (to program k) map ys up in-map len p 0 h
 
   pub more-kept : KeptPast image map put
@@ -108,7 +107,7 @@ module _ (image : List ℕ) (program : Program) (T : Told image program) (map ys
       rest : (p : ℕ) → (InCode program (k + 1) p → ⊥) → InCode program k p → ⊥
       rest p n (j, h, x, y) = n (j, omega arith, x, y)
 
-      go : (p : ℕ) → p < length image → (InCode program (k + 1) p → ⊥) → Dec (p < from program k) → Dec (p < to program k) → byte put p ≡ 255
+      go : (p : ℕ) → p < length image → (InCode program (k + 1) p → ⊥) → Dec (p < from program k) → Dec (p < to program k) → entry put p ≡ unmarked
       go p h n (yes x) d = before p x ∙ F .outside p h (rest p n)
       go p h n (no x) (yes y) = absurd (n (k, omega arith, omega arith, y))
       go p h n (no x) (no y) = after p (omega arith) ∙ F .outside p h (rest p n)

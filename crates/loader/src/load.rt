@@ -14,7 +14,7 @@ ghost use Rattle.mcode.specs.Run.{verdict, faultAt, Loads};
 ghost use Rattle.loader.specs.Load.{Checked, Walked, Refused};
 
 // Hands the depth check each module's part of the map, to be filled there. False where one module has no depths.
-fn check_all(image: &[u8], program: Program, map: &mut [u8], work: &mut [u16]) -> bool
+fn check_all(image: &[u8], program: Program, map: &mut [u32], work: &mut [u16]) -> bool
     requires { ⌜ Told (now image) program ⌝ }
     requires { ⌜ (length (now image) ≤ length (now map)) × (32767 ≤ length (now work)) ⌝ }
     ensures { λ r. ⌜ Checked (now (image .entry)) program (now (map .entry)) r (now (map .exit)) ⌝ }
@@ -81,7 +81,7 @@ fn fault_at(k: u8, p: u16) -> Verdict
 
 // Walks the modules one after another: 13 at the first one that is not whole, at the lowest position at fault in it, or 8. Each module's
 // part of the map has what is reached.
-fn first_fault(image: &[u8], program: Program, map: &mut [u8], work: &mut [u16]) -> Verdict
+fn first_fault(image: &[u8], program: Program, map: &mut [u32], work: &mut [u16]) -> Verdict
     requires { ⌜ Told (now image) program ⌝ }
     requires { ⌜ (length (now image) ≤ length (now map)) × (32767 ≤ length (now work)) ⌝ }
     ensures { λ r. ⌜ Walked (now (image .entry)) program r × KeptPast (now (image .entry)) (now (map .entry)) (now (map .exit)) ⌝ }
@@ -110,7 +110,7 @@ fn first_fault(image: &[u8], program: Program, map: &mut [u8], work: &mut [u16])
 }
 
 // The refusal where no depths fit, 13 or 8: the map is FF over the image's length.
-fn refused(image: &[u8], program: Program, map: &mut [u8], work: &mut [u16]) -> Verdict
+fn refused(image: &[u8], program: Program, map: &mut [u32], work: &mut [u16]) -> Verdict
     requires { ⌜ Told (now image) program ⌝ }
     requires { ⌜ (length (now image) ≤ length (now map)) × (32767 ≤ length (now work)) ⌝ }
     ensures { λ r. ⌜ Refused (now (image .entry)) program (now (map .entry)) r (now (map .exit)) ⌝ }
@@ -123,7 +123,7 @@ fn refused(image: &[u8], program: Program, map: &mut [u8], work: &mut [u16]) -> 
 
 // The number of the refusal, 1 to 8 or 13, or 0; the module and the position at fault with 13. A map that is refused with 13 or 8 is FF
 // over the image's length, and every other refusal leaves it as it was.
-pub fn load(image: &[u8], map: &mut [u8]) -> Verdict
+pub fn load(image: &[u8], map: &mut [u32]) -> Verdict
     ensures { λ r. ⌜ Loads (now (image .entry)) (now (map .entry)) r (now (map .exit)) ⌝ }
 {
     let parsed = image::read_image(image);

@@ -1,22 +1,22 @@
 -- The fewest assignment is one, the position at fault is one, and so load's answer is determined. Assumes nothing.
 use mathlib.Core.Path.{_≡_, refl, sym, ap, ap₂, _∙_, subst}
 use mathlib.Core.Bool.{Bool, true, false, false≢true}
-use mathlib.Core.List.{List, [], _∷_}
-use Prim.Native.Nat.{ℕ, zero, suc, _+_, _-_, _≤_, _<_}
+use mathlib.Core.List.{List}
+use Prim.Native.Nat.{ℕ, _+_, _-_, _≤_, _<_}
 use native.Mathlib.Decide.{ℕ-discrete, decLt}
 use native.Mathlib.Omega.{arith}
-use lib.ListN.{length, getD, take, drop, replicate}
+use lib.ListN.{length, drop}
 use lib.Seq.{ext-getD, getD-take, getD-drop}
-use lib.Dec.{ltb, leb, eqb}
+use lib.Dec.{ltb, leb}
 use borrow.Author.Tests.{ltb-true, leb-true, leb-false}
 use Rattle.mcode.specs.declared.Module.{Module}
 use Rattle.mcode.specs.declared.Program.{Program}
-use Rattle.mcode.specs.Word.{pick, and, anyBelow, byte}
+use Rattle.mcode.specs.Word.{pick, and}
 use Rattle.mcode.specs.Image.{parse, moduleOf, inCode}
-use Rattle.mcode.specs.Depths.{Analysis, mark, Fits, Fewest, NoneFits, Answer, depths, marksOf, KeptPast, Accepted, Blanked, NoDepths}
+use Rattle.mcode.specs.Depths.{Analysis, entry, mark, Fewest, Answer, depths, marksOf, KeptPast, Accepted, Blanked}
 use Rattle.mcode.specs.declared.Verdict.{Verdict}
 use Rattle.mcode.specs.Walk.{Whole, AllWhole, Broken}
-use Rattle.mcode.specs.Run.{verdict, Judged, accepts, breaks, unfit, Loads}
+use Rattle.mcode.specs.Run.{verdict, Judged, accepts, breaks, unfit}
 use Rattle.mcode.specs.Demands.{FewestUnique, MarksReached, LoadDetermined}
 use Rattle.mcode.proofs.Tests.{and-both, any-at}
 use Rattle.mcode.proofs.Reached.{marks-reached}
@@ -43,20 +43,20 @@ pub fewest-is-unique : FewestUnique
 unfolding FewestUnique
 fewest-is-unique A a b S R = fewest-unique A a b S R
 
--- a byte of a module's part
-part-byte : (m : Module) (a : List ℕ) (i : ℕ) → m .code ≤ i → i < m .code + m .length → byte (marksOf a m) (i - m .code) ≡ byte a i
-part-byte m a i h l =
+-- an entry of a module's part
+part-entry : (m : Module) (a : List ℕ) (i : ℕ) → m .code ≤ i → i < m .code + m .length → entry (marksOf a m) (i - m .code) ≡ entry a i
+part-entry m a i h l =
     let q : m .code + (i - m .code) ≡ i = omega arith in
     getD-take (m .length) (drop (m .code) a) (i - m .code) 0 (omega arith)
     ∙ getD-drop (m .code) a (i - m .code) 0
-    ∙ ap (byte a) q
+    ∙ ap (entry a) q
 
 module _ (image : List ℕ) (program : Program) (before a b : List ℕ) where
-  -- two maps that kept the bytes past the image are equal where those of the image are
-  kept-same : KeptPast image before a → KeptPast image before b → ((i : ℕ) → i < length image → byte a i ≡ byte b i) → a ≡ b
+  -- two maps that kept the entries past the image are equal where those of the image are
+  kept-same : KeptPast image before a → KeptPast image before b → ((i : ℕ) → i < length image → entry a i ≡ entry b i) → a ≡ b
   kept-same S R h = ext-getD 0 a b (S .long ∙ sym (R .long)) (λ i l. go i (decLt i (length image)))
     where
-      go : (i : ℕ) → Dec (i < length image) → byte a i ≡ byte b i
+      go : (i : ℕ) → Dec (i < length image) → entry a i ≡ entry b i
       go i (yes l) = h i l
       go i (no n) = let g : length image ≤ i = omega arith in S .past i g ∙ sym (R .past i g)
 
@@ -64,16 +64,16 @@ module _ (image : List ℕ) (program : Program) (before a b : List ℕ) where
   unfolding inCode
   accepted-unique S R = kept-same (S .kept) (R .kept) (λ i l. go i l (inCode program i) refl)
     where
-      go : (i : ℕ) → i < length image → (t : Bool) → inCode program i ≡ t → byte a i ≡ byte b i
+      go : (i : ℕ) → i < length image → (t : Bool) → inCode program i ≡ t → entry a i ≡ entry b i
       go i l false e = S .outside i l e ∙ sym (R .outside i l e)
       go i l true e =
           let (k, lt, t) = any-at (program .count) (λ k. and (leb (moduleOf program k .code) i) (ltb i (moduleOf program k .code + moduleOf program k .length))) e in
           let (x, y) = and-both (leb (moduleOf program k .code) i) (ltb i (moduleOf program k .code + moduleOf program k .length)) t in
           let m = moduleOf program k in
           let u : marksOf a m ≡ marksOf b m = fewest-unique (depths image program m) (marksOf a m) (marksOf b m) (S .fewest k lt) (R .fewest k lt) in
-          sym (part-byte m a i (leb-true _ _ x) (ltb-true _ _ y))
-          ∙ ap (λ (xs : List ℕ). byte xs (i - m .code)) u
-          ∙ part-byte m b i (leb-true _ _ x) (ltb-true _ _ y)
+          sym (part-entry m a i (leb-true _ _ x) (ltb-true _ _ y))
+          ∙ ap (λ (xs : List ℕ). entry xs (i - m .code)) u
+          ∙ part-entry m b i (leb-true _ _ x) (ltb-true _ _ y)
 
   blanked-unique : Blanked image before a → Blanked image before b → a ≡ b
   blanked-unique S R = kept-same (S .kept) (R .kept) (λ i l. S .blank i l ∙ sym (R .blank i l))

@@ -1,23 +1,22 @@
 -- What the rules say follows an opcode is what its action does: one line for all 256 rows, each by computing. Assumes nothing.
-use mathlib.Core.Path.{_≡_, refl, sym, subst}
+use mathlib.Core.Path.{sym, subst}
 use mathlib.Core.Logic.{⊎-elim}
-use mathlib.Core.Bool.{Bool, true, false}
 use mathlib.Core.List.{List}
-use Prim.Native.Nat.{ℕ, zero, suc, _+_, _-_, _≤_, _<_}
+use Prim.Native.Nat.{ℕ, zero, suc, _-_, _≤_, _<_}
 use native.Mathlib.Nat.{eq-or-lt-of-le, not-suc-le-zero}
 use native.Mathlib.Omega.{arith}
-use lib.ListN.{length, getD}
-use lib.Dec.{ltb, leb, eqb}
+use lib.ListN.{getD}
+use lib.Dec.{ltb, eqb}
 use borrow.Author.Tests.{ne-eqb}
 use Rattle.mcode.specs.declared.Module.{Module}
 use Rattle.mcode.specs.declared.Program.{Program}
 use Rattle.mcode.specs.declared.Registers.{Registers}
 use Rattle.mcode.specs.declared.Flow.{Flow}
-use Rattle.mcode.specs.declared.Flow.the-variants.{Fault, Ends, To, Fork}
-use Rattle.mcode.specs.Decode.{Action, Put, AddTop, Jump, JumpZero, OrJump, AndJump, Load, LoadTop, LoadIndexed, Store, StoreBelow, StoreIndexed, LoadByte, StoreByte, One, Two, Three, Copy, Nothing, Read, Write, Trap, Enter, Follow, Call, CallLinked, CallExternal, Return, Transfer, PutPair, LoadPair, LoadPairTop, StorePair, StorePairBelow, Double}
+use Rattle.mcode.specs.declared.Flow.the-variants.{Ends, To, Fork}
+use Rattle.mcode.specs.Decode.{Action, Put, AddTop, Jump, JumpZero, OrJump, AndJump, Load, LoadTop, LoadIndexed, Store, StoreBelow, StoreIndexed, LoadByte, StoreByte, One, Two, Three, Copy, Nothing, Read, Write, Trap, Enter, Follow, Call, CallLinked, CallExternal, Return, Transfer, PutPair, LoadPair, LoadPairTop, StorePair, StorePairBelow, Double, Save, Fetch}
 use Rattle.mcode.specs.Word.{pick}
 use Rattle.mcode.specs.Opcode.{lengths}
-use Rattle.mcode.specs.Depths.{Analysis, Follows, depths, carry, onward, jumps, calls, callsIn}
+use Rattle.mcode.specs.Depths.{Follows, depths, carry, onward, jumps, calls, callsIn}
 use Rattle.mcode.specs.Decode.{decodeOf, row1, row2, row3, loads, stores, row8, row9, row10, row11, row12, row13, row14, row15}
 use Rattle.mcode.proofs.Standing.{met}
 
@@ -58,6 +57,8 @@ flowOf image program m n e (LoadPairTop k) = To n e
 flowOf image program m n e (StorePair a) = To n e
 flowOf image program m n e (StorePairBelow k) = To n e
 flowOf image program m n e (Double op) = To n e
+flowOf image program m n e Save = To n e
+flowOf image program m n e Fetch = To n e
 
 module _ (image : List ℕ) (program : Program) (m : Module) (w : List ℕ) (g o : ℕ → ℕ) (n e : ℕ) (r : Registers) (bases : List ℕ) where
   -- the row op, if it is used; g makes the marks
@@ -78,7 +79,7 @@ module _ (image : List ℕ) (program : Program) (m : Module) (w : List ℕ) (g o
 
   all-rows : Rows 256
   unfolding lengths onward jumps decodeOf row1 row2 row3 loads stores row8 row9 row10 row11 row12 row13 row14 row15
-  all-rows = (λ f. f, (λ f. f, (λ f. f, (λ f. f, (λ f. f, (λ f. f, (λ f. f, (λ f. f, (λ f. f, (λ f. f, (λ f. f, (λ f. f, (λ f. f, (λ f. f, (λ f. f, (λ f. f, (tt, (λ f. f, (λ f. f, (λ f. f, (λ f. f, (tt, (λ f. f, (λ f. f, (tt, (tt, (tt, (tt, (tt, (tt, (tt, (tt, (tt, (λ f. f, (tt, (tt, (λ f. f, (λ f. f, (λ f. f, (λ f. f, (λ f. f, (tt, (tt, (tt, (λ f. f, (λ f. f, (λ f. f, (λ f. f, (λ f. f, (λ f. f, (λ f. f, (λ f. f, (λ f. f, (λ f. f, (λ f. f, (λ f. f, (tt, (λ f. f, (λ f. f, (λ f. f, (tt, (tt, (tt, (tt, (λ f. f, (λ f. f, (λ f. f, (λ f. f, (λ f. f, (λ f. f, (λ f. f, (λ f. f, (tt, (tt, (λ f. f, (tt, (tt, (tt, (tt, (tt, (tt, (λ f. f, (λ f. f, (λ f. f, (λ f. f, (λ f. f, (tt, (tt, (tt, (tt, (λ f. f, (tt, (tt, (tt, (λ f. f, (λ f. f, (tt, (tt, (tt, (tt, (tt, (tt, (tt, (tt, (tt, (λ f. f, (λ f. f, (tt, (tt, (λ f. f, (λ f. f, (λ f. f, (tt, (tt, (tt, (tt, (tt, (tt, (λ f. f, (λ f. f, (tt, (λ f. f, (λ f. f, (tt, (tt, (λ f. f, (λ f. f, (λ f. f, (λ f. f, (λ f. f, (λ f. f, (λ f. f, (λ f. f, (λ f. f, (λ f. f, (λ f. f, (λ f. f, (λ f. f, (λ f. f, (λ f. f, (λ f. f, (λ f. f, (λ f. f, (λ f. f, (λ f. f, (λ f. f, (λ f. f, (λ f. f, (λ f. f, (λ f. f, (λ f. f, (λ f. f, (λ f. f, (λ f. f, (λ f. f, (λ f. f, (λ f. f, (λ f. f, (λ f. f, (λ f. f, (λ f. f, (λ f. f, (λ f. f, (λ f. f, (λ f. f, (λ f. f, (λ f. f, (λ f. f, (λ f. f, (λ f. f, (λ f. f, (λ f. f, (λ f. f, (λ f. f, (λ f. f, (λ f. f, (λ f. f, (λ f. f, (λ f. f, (λ f. f, (λ f. f, (λ f. f, (λ f. f, (λ f. f, (λ f. f, (λ f. f, (λ f. f, (λ f. f, (λ f. f, (λ f. f, (λ f. f, (λ f. f, (λ f. f, (λ f. f, (λ f. f, (λ f. f, (λ f. f, (λ f. f, (λ f. f, (λ f. f, (λ f. f, (λ f. f, (λ f. f, (λ f. f, (λ f. met (depths image program m) w g (ltb (o 1) (program .count)) (To n e) f .1, (λ f. met (depths image program m) w g (ltb (o 1) (program .count)) (To n e) f .1, (λ f. f, (λ f. f, (λ f. f, (λ f. f, (λ f. f, (λ f. f, (λ f. f, (λ f. f, (λ f. f, (λ f. f, (λ f. f, (λ f. f, (λ f. f, (λ f. f, (λ f. met (depths image program m) w g (ltb (o 1) (program .count)) (To n e) f .1, (λ f. met (depths image program m) w g (ltb (o 1) (program .count)) (To n e) f .1, (λ f. f, (λ f. f, (λ f. f, (λ f. f, (λ f. f, (λ f. f, (λ f. f, (λ f. f, (λ f. f, (λ f. f, (λ f. met (depths image program m) w g (ltb (o 1) (program .count)) (To n e) f .1, (λ f. f, (λ f. f, (λ f. f, (λ f. f, (λ f. f, (tt, (λ f. f, (λ f. f, (λ f. f, (λ f. f, (λ f. f, (λ f. f, (λ f. f, (λ f. f, (λ f. f, (λ f. f, (λ f. f, (λ f. f, (λ f. f, (λ f. f, (λ f. f, (λ f. f, (λ f. f, tt))))))))))))))))))))))))))))))))))))))))))))))))))))))))))))))))))))))))))))))))))))))))))))))))))))))))))))))))))))))))))))))))))))))))))))))))))))))))))))))))))))))))))))))))))))))))))))))))))))))))))))))))))))))))))))))))))))))))))))))))))))))))))))))))
+  all-rows = (λ f. f, (λ f. f, (λ f. f, (λ f. f, (λ f. f, (λ f. f, (λ f. f, (λ f. f, (λ f. f, (λ f. f, (λ f. f, (λ f. f, (λ f. f, (λ f. f, (λ f. f, (λ f. f, (tt, (λ f. f, (λ f. f, (λ f. f, (λ f. f, (tt, (λ f. f, (λ f. f, (tt, (tt, (tt, (tt, (tt, (tt, (tt, (tt, (tt, (λ f. f, (tt, (tt, (λ f. f, (λ f. f, (λ f. f, (λ f. f, (λ f. f, (tt, (tt, (tt, (λ f. f, (λ f. f, (λ f. f, (λ f. f, (λ f. f, (λ f. f, (λ f. f, (λ f. f, (λ f. f, (λ f. f, (λ f. f, (λ f. f, (tt, (λ f. f, (λ f. f, (λ f. f, (tt, (tt, (tt, (tt, (λ f. f, (λ f. f, (λ f. f, (λ f. f, (λ f. f, (λ f. f, (λ f. f, (λ f. f, (tt, (tt, (λ f. f, (tt, (tt, (λ f. f, (tt, (λ f. f, (tt, (λ f. f, (λ f. f, (λ f. f, (λ f. f, (λ f. f, (tt, (tt, (tt, (tt, (λ f. f, (tt, (tt, (tt, (λ f. f, (λ f. f, (tt, (tt, (tt, (tt, (tt, (tt, (tt, (tt, (tt, (λ f. f, (λ f. f, (tt, (tt, (λ f. f, (λ f. f, (λ f. f, (tt, (tt, (tt, (tt, (tt, (tt, (λ f. f, (λ f. f, (tt, (λ f. f, (λ f. f, (tt, (tt, (λ f. f, (λ f. f, (λ f. f, (λ f. f, (λ f. f, (λ f. f, (λ f. f, (λ f. f, (λ f. f, (λ f. f, (λ f. f, (λ f. f, (λ f. f, (λ f. f, (λ f. f, (λ f. f, (λ f. f, (λ f. f, (λ f. f, (λ f. f, (λ f. f, (λ f. f, (λ f. f, (λ f. f, (λ f. f, (λ f. f, (λ f. f, (λ f. f, (λ f. f, (λ f. f, (λ f. f, (λ f. f, (λ f. f, (λ f. f, (λ f. f, (λ f. f, (λ f. f, (λ f. f, (λ f. f, (λ f. f, (λ f. f, (λ f. f, (λ f. f, (λ f. f, (λ f. f, (λ f. f, (λ f. f, (λ f. f, (λ f. f, (λ f. f, (λ f. f, (λ f. f, (λ f. f, (λ f. f, (λ f. f, (λ f. f, (λ f. f, (λ f. f, (λ f. f, (λ f. f, (λ f. f, (λ f. f, (λ f. f, (λ f. f, (λ f. f, (λ f. f, (λ f. f, (λ f. f, (λ f. f, (λ f. f, (λ f. f, (λ f. f, (λ f. f, (λ f. f, (λ f. f, (λ f. f, (λ f. f, (λ f. f, (λ f. f, (λ f. met (depths image program m) w g (ltb (o 1) (program .count)) (To n e) f .1, (λ f. met (depths image program m) w g (ltb (o 1) (program .count)) (To n e) f .1, (λ f. f, (λ f. f, (λ f. f, (λ f. f, (λ f. f, (λ f. f, (λ f. f, (λ f. f, (λ f. f, (λ f. f, (λ f. f, (λ f. f, (λ f. f, (λ f. f, (λ f. met (depths image program m) w g (ltb (o 1) (program .count)) (To n e) f .1, (λ f. met (depths image program m) w g (ltb (o 1) (program .count)) (To n e) f .1, (λ f. f, (λ f. f, (λ f. f, (λ f. f, (λ f. f, (λ f. f, (λ f. f, (λ f. f, (λ f. f, (λ f. f, (λ f. met (depths image program m) w g (ltb (o 1) (program .count)) (To n e) f .1, (λ f. f, (λ f. f, (λ f. f, (λ f. f, (λ f. f, (tt, (λ f. f, (λ f. f, (λ f. f, (λ f. f, (λ f. f, (λ f. f, (λ f. f, (λ f. f, (λ f. f, (λ f. f, (λ f. f, (λ f. f, (λ f. f, (λ f. f, (λ f. f, (λ f. f, (λ f. f, tt))))))))))))))))))))))))))))))))))))))))))))))))))))))))))))))))))))))))))))))))))))))))))))))))))))))))))))))))))))))))))))))))))))))))))))))))))))))))))))))))))))))))))))))))))))))))))))))))))))))))))))))))))))))))))))))))))))))))))))))))))))))))))))))))
 
   pub flow-row : (op : ℕ) → op < 256 → 0 < getD lengths op 0 → Follows (depths image program m) w (carry g (onward image program m (r .pc .0) op (o 1) (o 2) n e))
       → Follows (depths image program m) w (carry g (flowOf image program m n e (decodeOf op o r bases .action)))

@@ -1,4 +1,4 @@
--- Calls, returns and transfers have the right outcome. Assumes nothing.
+-- Calls, returns and transfers, and a stack saved and fetched, have the right outcome. Assumes nothing.
 use mathlib.Core.Path.{_≡_, refl, sym, _∙_, subst}
 use mathlib.Core.Logic.{_⊎_, inl, inr}
 use mathlib.Core.Bool.{true, not}
@@ -11,20 +11,19 @@ use borrow.Author.Tests.{ltb-true, ltb-false, leb-true, eqb-true, eqb-false}
 use Rattle.mcode.specs.declared.Position.{Position}
 use Rattle.mcode.specs.declared.Module.{Module}
 use Rattle.mcode.specs.declared.Flow.the-variants.{To, Fault as NoFlow}
-use Rattle.mcode.specs.Decode.{Action, Return, Transfer}
+use Rattle.mcode.specs.Decode.{Action, Return, Transfer, Save, Fetch}
 use Rattle.mcode.specs.Word.{pick, and}
 use Rattle.mcode.specs.Image.{margin, moduleOf, basesOf, procCount, entryOf, paramsOf, resultsOf}
-use Rattle.mcode.specs.Depths.{passed, depths, calls, callsIn, marksOf}
+use Rattle.mcode.specs.Depths.{frontOf, passed, depths, calls, callsIn, marksOf}
 use Rattle.mcode.specs.Machine.{position, machine, at, framed, top, second, take2}
-use Rattle.mcode.specs.Step.{storesTo, wordIn, call, unitBased, lands, backTo, returned, processAt, withinLimit, resumes, isProcess, savedStore, restoredMachine, switched, transferred}
+use Rattle.mcode.specs.Step.{storesTo, wordIn, call, unitBased, lands, backTo, returned, processAt, withinLimit, resumes, isProcess, saved, savedStore, restoredMachine, switched, transferred, stackSaved, stackFetched}
 use Rattle.mcode.specs.Demands.{isPlain}
 use Rattle.mcode.proofs.Tests.{and-both, not-is}
-use Rattle.mcode.proofs.Marks.{mark-real}
 use Rattle.mcode.proofs.Standing.{At, at-of, Good, entry-at, met}
 use Rattle.mcode.proofs.Rows.{takenBy, leftBy, ownOp}
-use Rattle.mcode.proofs.Zeros.{zeros-restored, length-saved-store}
-use Rattle.mcode.proofs.Shapes.{Here, P, R, D, M, U, Mark, Marks, Asks, Stack, take2-fine, framed-counts, same-stack}
-use Rattle.mcode.proofs.Right.{Right, on, off, other, led, to-all, by-test, in-store}
+use Rattle.mcode.proofs.Zeros.{zeros-under, zeros-restored, length-saved, length-saved-store}
+use Rattle.mcode.proofs.Shapes.{Stays, Here, P, R, D, M, U, Mark, Marks, Asks, Stack, take2-fine, framed-counts, same-stack}
+use Rattle.mcode.proofs.Right.{Right, on, off, other, away, again, led, to-all, by-test, in-store}
 
 -- a call, a return and a transfer are not plain
 not-plain : (op : ℕ) → (0o354 ≤ op) ⊎ (op ≡ 0o256) → isPlain op ≡ true → ⊥
@@ -102,6 +101,37 @@ module _ (H : Here) (n : Position) where
       (λ t. to-all H n (take2 n (M H)) (set (H .x .store) (second (M H)) (R H .p .0)) (H .x .outputs) (take2-fine H n h f) (length-set (H .x .store) (second (M H)) (R H .p .0)) refl)
       (λ t. switch-right b q)))
 
+  -- 262 and 260
+  pub save-right : At (P H) (H .lent .map) (R H .unit) (n .0) 0
+      → Stays (P H) (H .lent .map) (M H) (machine (at n 0 (framed (R H .unit) (R H .l .0) (R H .s .0 + D H + 1) (R H))) (replicate 16 0)) → Right H n Save (stackSaved n (H .x))
+  unfolding stackSaved
+  save-right a s =
+      by-test H n (ltb (R H .h .0) (R H .s .0 + D H + 1)) (λ e. off tt) (λ e.
+      on (record {
+        good = record { at = a; low = ltb-false _ _ e; high = H .kept .good .high; proc = H .kept .good .proc; zeros = λ i l h. getD-replicate 16 i 0 0 l };
+        sized = length-set (saved (M H .stack) (D H) (R H .s .0) (H .x .store)) (R H .s .0 + D H) (D H) ∙ length-saved (M H .stack) (D H) (R H .s .0) (H .x .store) ∙ H .kept .sized;
+        outs = H .kept .outs;
+      }) (away refl refl) (λ op o p. s))
+
+  pub fetch-right : D H ≡ 1 → frontOf (Mark H) ≤ 15 → At (P H) (H .lent .map) (R H .unit) (n .0) (frontOf (Mark H) + 1)
+      → ((stack : List ℕ) → Stays (P H) (H .lent .map) (M H) (machine (at n (frontOf (Mark H) + 1) (framed (R H .unit) (R H .l .0) (R H .s .0 - 1 - frontOf (Mark H)) (R H))) stack)) → Right H n Fetch (stackFetched (H .lent) n (H .x))
+  unfolding stackFetched
+  fetch-right d l a z =
+      let k = frontOf (Mark H) in
+      let s = R H .s .0 in
+      by-test H n (and (ltb k s) (eqb (wordIn (H .x) (s - 1)) k)) (λ t.
+      on (record {
+        good = record {
+          at = a;
+          low = omega (arith, H .kept .good .low);
+          high = H .kept .good .high;
+          proc = H .kept .good .proc;
+          zeros = zeros-restored (H .x .store) k (s - 1 - k) (k + 1) (set (replicate 16 0) k (top (M H))) (omega arith) (zeros-under (replicate 16 0) (k + 1) k (top (M H)) (omega arith) (λ i h j. getD-replicate 16 i 0 0 h));
+        };
+        sized = H .kept .sized;
+        outs = H .kept .outs;
+      }) (again k d (sym (eqb-true _ _ (and-both (ltb k s) (eqb (wordIn (H .x) (s - 1)) k) t .1))) l refl refl) (λ op o p. z _)) (λ t. off tt)
+
   -- what a call of procedure i of module m asks, whose next position is q
   pub asks-call : (m : Module) (i q e : ℕ) → Asks H (calls (H .lent .image) m i q e)
       → (i < procCount m) × (e ≡ paramsOf (H .lent .image) m i) × Marks H q (resultsOf (H .lent .image) m i)
@@ -121,8 +151,7 @@ module _ (H : Here) (n : Position) where
       let m = moduleOf (P H) k in
       let image = H .lent .image in
       let (lt, s, j) = asks-call m i q e f in
-      let sound = H .told .laid .sound k l in
-      entry-at image (P H) (H .lent .map) (H .fit) k i l lt (mark-real (paramsOf image m i) (resultsOf image m i) (sound .params i lt) (sound .results i lt)) d (subst (λ (y : ℕ). y ≤ 16) z h) (sym z ∙ s)
+      entry-at image (P H) (H .lent .map) (H .fit) k i l lt d (subst (λ (y : ℕ). y ≤ 16) z h) (sym z ∙ s)
 
   -- a call into another module that fits
   pub in-other : (k i q e : ℕ) → Asks H (callsIn (H .lent .image) (P H) k i q e) → (k < P H .count) × Asks H (calls (H .lent .image) (moduleOf (P H) k) i q e)

@@ -6,17 +6,17 @@ use mathlib.Core.List.{List, [], _∷_}
 use Prim.Native.Nat.{ℕ}
 use lib.Dec.{eqb}
 use lib.ListN.{length, replicate}
-use Rattle.mcode.specs.Word.{pick, and, allBelow, anyBelow, oneOf, twoOf, threeOf, doubleOf}
+use Rattle.mcode.specs.Word.{pick, allBelow, anyBelow, oneOf, twoOf, threeOf, doubleOf}
 use Rattle.mcode.specs.Opcode.{lengths, takens, lefts}
 use Rattle.mcode.specs.Image.{byteAt, wordAt, skipAt, bitsAt, dataAt, countAt, nameAt, lengthAt, limitedAt, recordAt, recordsAt, bodyAt, moduleAt, refusedBy, modulesFrom, parse, inCode}
-use Rattle.mcode.specs.Depths.{unmarked, fits, markOf, depthOf, promised, isMark, passed, permits, depthFlow, target, jumps, calls, callsIn, onward, flowAt, marked, mapFits}
+use Rattle.mcode.specs.Depths.{unmarked, fits, markOf, depthOf, promised, saves, listOf, frontOf, isList, isMark, passed, stored, fetched, leaves, permits, depthFlow, target, jumps, calls, callsIn, onward, flowAt, marked, mapFits}
 use Rattle.mcode.specs.Walk.{ways, waysAt, legible, named, causeAt, wholeAt}
 use Rattle.mcode.specs.declared.Verdict.{Verdict}
 use Rattle.mcode.specs.Machine.{isMachine}
 use Rattle.mcode.specs.Decode.{row1, row2, row3, loads, stores, row8, row9, row10, row11, row12, row13, row14, row15, decodeOf}
-use Rattle.mcode.specs.Step.{followed, call, unitOf, backTo, returned, isProcess, saved, restored, written, savedStore, restoredMachine, switched, transferred, performOf, stepOf}
+use Rattle.mcode.specs.Step.{followed, call, unitOf, backTo, returned, isProcess, saved, restored, written, savedStore, restoredMachine, switched, transferred, stackSaved, stackFetched, performOf, stepOf}
 use Rattle.mcode.specs.Run.{verdict, faultAt, Loads, runN, runRefusal, runOf, startRefusal, startStore, startMachine, startOf}
-use Rattle.mcode.specs.Marked.{Reading, Expected, refuses, reads, Case, deskOf, Holds, AllHold, cases}
+use Rattle.mcode.specs.Marked.{Expected, refuses, reads, Case, deskOf, Holds, AllHold, cases}
 use Rattle.mcode.proofs.Trace.{gather, entered, forced, member, leastTest, other, wrong, anyWrong, clashTest, acceptTest, setFrom, setOf, wholeTest, unfitTest, brokenTest, accepts, refuses-8, refuses-13}
 
 -- the test of a refusal, 13 or 8
@@ -46,8 +46,8 @@ all-hold [] t = tt
 all-hold (c ∷ cs) t = (holds (c .image) (c .budget) (c .expected) (t .0), all-hold cs (t .1))
 
 computed : AllComputed cases
-unfolding allBelow anyBelow oneOf twoOf threeOf doubleOf lengths takens lefts byteAt wordAt skipAt bitsAt dataAt countAt nameAt lengthAt limitedAt recordAt recordsAt bodyAt moduleAt refusedBy modulesFrom parse inCode fits markOf depthOf promised isMark passed permits depthFlow target jumps calls callsIn onward flowAt marked mapFits isMachine row1 row2 row3 loads stores row8 row9 row10 row11 row12 row13 row14 row15 decodeOf followed call unitOf backTo returned isProcess saved restored written savedStore restoredMachine switched transferred performOf stepOf runN runRefusal runOf startRefusal startStore startMachine startOf deskOf gather entered forced member leastTest other wrong anyWrong clashTest acceptTest setFrom setOf wholeTest unfitTest brokenTest ways waysAt legible named causeAt wholeAt
-computed = ((refl, refl, refl), ((refl, refl, refl), ((refl, refl, refl), ((refl, refl, refl), ((refl, refl, refl), ((refl, refl, refl), ((refl, refl, refl), ((refl, refl, refl), ((refl, refl, refl), ((refl, refl, refl), ((refl, refl, refl), ((refl, refl, refl), ((refl, refl, refl), ((refl, refl, refl), ((refl, refl, refl), ((refl, refl, refl), ((refl, refl, refl), ((refl, refl, refl), tt))))))))))))))))))
+unfolding allBelow anyBelow oneOf twoOf threeOf doubleOf lengths takens lefts byteAt wordAt skipAt bitsAt dataAt countAt nameAt lengthAt limitedAt recordAt recordsAt bodyAt moduleAt refusedBy modulesFrom parse inCode fits markOf depthOf promised saves listOf frontOf isList isMark passed stored fetched leaves permits depthFlow target jumps calls callsIn onward flowAt marked mapFits isMachine row1 row2 row3 loads stores row8 row9 row10 row11 row12 row13 row14 row15 decodeOf followed call unitOf backTo returned isProcess saved restored written savedStore restoredMachine switched transferred stackSaved stackFetched performOf stepOf runN runRefusal runOf startRefusal startStore startMachine startOf deskOf gather entered forced member leastTest other wrong anyWrong clashTest acceptTest setFrom setOf wholeTest unfitTest brokenTest ways waysAt legible named causeAt wholeAt
+computed = ((refl, refl, refl), ((refl, refl, refl), ((refl, refl, refl), ((refl, refl, refl), ((refl, refl, refl), ((refl, refl, refl), ((refl, refl, refl), ((refl, refl, refl), ((refl, refl, refl), ((refl, refl, refl), ((refl, refl, refl), ((refl, refl, refl), ((refl, refl, refl), ((refl, refl, refl), ((refl, refl, refl), ((refl, refl, refl), ((refl, refl, refl), ((refl, refl, refl), ((refl, refl, refl), ((refl, refl, refl), ((refl, refl, refl), tt)))))))))))))))))))))
 
 pub marked-cases : AllHold cases
 marked-cases = all-hold cases computed

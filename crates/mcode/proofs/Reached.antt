@@ -6,7 +6,7 @@ use mathlib.Core.Bool.{Bool, true, false}
 use mathlib.Core.List.{List, [], _∷_}
 use Prim.Native.Nat.{ℕ, zero, suc, _+_, _-_, _≤_, _<_}
 use native.Mathlib.Nat.{le-of-suc-le-suc, not-suc-le-zero}
-use native.Mathlib.Decide.{ℕ-discrete, decLt}
+use native.Mathlib.Decide.{decLt}
 use native.Mathlib.Omega.{arith}
 use lib.ListN.{length, getD, replicate, length-replicate, getD-replicate, List·getD-eq-default}
 use lib.Dec.{ltb, leb, eqb}
@@ -19,11 +19,11 @@ use Rattle.mcode.specs.Word.{pick, and, or}
 use Rattle.mcode.specs.Opcode.{lengths, takens, lefts}
 use Rattle.mcode.specs.Image.{parse, moduleOf, codeByte, procCount, entryOf, paramsOf, resultsOf}
 use Rattle.mcode.specs.Layout.{Sound, Told}
-use Rattle.mcode.specs.Depths.{Analysis, mark, Marked, Follows, Fits, Fewest, unmarked, markOf, depthOf, isMark, passed, permits, target, jumps, calls, callsIn, namesModule, onward, depthFlow, carry, flowAt, depths}
+use Rattle.mcode.specs.Depths.{Analysis, mark, Marked, Follows, Fits, Fewest, unmarked, markOf, depthOf, isMark, leaves, permits, target, jumps, calls, callsIn, namesModule, onward, depthFlow, carry, flowAt, depths}
 use Rattle.mcode.specs.Walk.{seen, ways, waysAt, legible, named, staysIn, causeAt, wholeAt, within, walk, Reached, Whole}
 use Rattle.mcode.specs.Demands.{MarksReached}
 use Rattle.mcode.proofs.Tests.{and-both, both-and, or-either, inside}
-use Rattle.mcode.proofs.Marks.{mark-real, real-marked, passed-real}
+use Rattle.mcode.proofs.Marks.{entry-mark, mark-real, leaves-mark}
 use Rattle.mcode.proofs.Reader.{told}
 
 -- ---- a list of n numbers, each by its place
@@ -151,20 +151,20 @@ module _ (image : List ℕ) (program : Program) (T : Told image program) (k : �
     onto : {q d : ℕ} → t ≡ true → (d ≡ unmarked → ⊥) → Leads t (To q d) (To q 0)
     forks : {q d r e : ℕ} → t ≡ true → (d ≡ unmarked → ⊥) → (e ≡ unmarked → ⊥) → Leads t (Fork q d r e) (Fork q 0 r 0)
 
-  carried : {t : Bool} {f g : Flow} (k : ℕ) → isMark k ≡ true → Alike t f g → Leads t (carry (passed k) f) g
-  carried k h faulty = nowhere
-  carried k h (ends t) = stays t
-  carried k h (one t l) = onto t (real-marked _ (passed-real k _ h l))
-  carried k h (two t l r) = forks t (real-marked _ (passed-real k _ h l)) (real-marked _ (passed-real k _ h r))
+  carried : {t : Bool} {f g : Flow} (k op : ℕ) → isMark k ≡ true → permits k op ≡ true → Alike t f g → Leads t (carry (leaves k op) f) g
+  carried k op m h faulty = nowhere
+  carried k op m h (ends t) = stays t
+  carried k op m h (one t l) = onto t (mark-real _ (leaves-mark k op _ m h l))
+  carried k op m h (two t l r) = forks t (mark-real _ (leaves-mark k op _ m h l)) (mark-real _ (leaves-mark k op _ m h r))
 
   leads : (p k : ℕ) → Leads (Legal p) (flowAt image program m p k) (waysAt image m p)
   unfolding flowAt
-  leads p k = go (isMark k) refl (permits k (codeByte image m p))
+  leads p k = go (isMark k) refl (permits k (codeByte image m p)) refl
     where
-      go : (u : Bool) → isMark k ≡ u → (v : Bool) → Leads (Legal p) (pick u (pick v (carry (passed k) (depthFlow image program m p (depthOf k))) Fault) Fault) (waysAt image m p)
-      go true h true = carried k h (depth-alike p (depthOf k))
-      go true h false = nowhere
-      go false h v = nowhere
+      go : (u : Bool) → isMark k ≡ u → (v : Bool) → permits k (codeByte image m p) ≡ v → Leads (Legal p) (pick u (pick v (carry (leaves k (codeByte image m p)) (depthFlow image program m p (depthOf k))) Fault) Fault) (waysAt image m p)
+      go true r true h = carried k (codeByte image m p) r h (depth-alike p (depthOf k))
+      go true r false h = nowhere
+      go false r v h = nowhere
 
   follows-into : (w : List ℕ) {t : Bool} {f g : Flow} → Leads t f g → Follows D w f → (t ≡ true) × Into (λ q d. (d ≡ 0) × Marked D w q) g
   follows-into w nowhere x = absurd x
@@ -234,7 +234,7 @@ module _ (image : List ℕ) (program : Program) (T : Told image program) (k : �
     entry-marked : (i : ℕ) → i < procCount m → Marked D w (entryOf image m i)
     entry-marked i l z =
         let S = T .laid .sound k loaded in
-        real-marked _ (mark-real (paramsOf image m i) (resultsOf image m i) (S .params i l) (S .results i l)) (sym (F .enters i l) ∙ z)
+        mark-real _ (entry-mark (paramsOf image m i) (resultsOf image m i) (S .params i l) (S .results i l)) (sym (F .enters i l) ∙ z)
 
     -- the positions that it marks, as a set
     abbrev s : List ℕ

@@ -19,7 +19,7 @@ use Rattle.mcode.specs.declared.Stop.the-variants.{StackLimit}
 use Rattle.mcode.specs.Word.{pick}
 use Rattle.mcode.specs.Opcode.{lengths, takens, lefts}
 use Rattle.mcode.specs.Image.{noModule, parse, moduleOf, basesOf, entryOf, paramsOf, resultsOf}
-use Rattle.mcode.specs.Depths.{promised, calls, onward, mapFits}
+use Rattle.mcode.specs.Depths.{Follows, promised, leaves, calls, onward, carry, depths, marksOf, mapFits}
 use Rattle.mcode.specs.Machine.{State, state, Outcome, go, halt, position, machine, at, framed}
 use Rattle.mcode.specs.Decode.{Action, Call, CallLinked, CallExternal, sized, decodeOf, row14, row15}
 use Rattle.mcode.specs.Step.{wordIn, call, unitOf, unitBased, backTo, returned, written, performOf, stepOf}
@@ -27,7 +27,7 @@ use Rattle.mcode.specs.Run.{lentTo}
 use Rattle.mcode.specs.Layout.{Told}
 use Rattle.mcode.specs.Demands.{opcodeAt, isCall, isPlain, Untouched, Behind, Goes, arrived, by-step, Within, entered, stays, calls as called, transfers, CallReturns, MainEnds}
 use Rattle.mcode.proofs.Compose.{go-same}
-use Rattle.mcode.proofs.Marks.{promised-mark, returned-depth}
+use Rattle.mcode.proofs.Marks.{promised-mark, return-permitted, leaves-passed}
 use Rattle.mcode.proofs.Standing.{At, good-of, marked-at, fits-part, part-mark}
 use Rattle.mcode.proofs.Rows.{own-row}
 use Rattle.mcode.proofs.FlowRows.{flowOf}
@@ -110,10 +110,10 @@ module _ (H : Here) where
   Said q (halt k) = Unit {0}
 
   -- a call of procedure i of module k, from this depth and stack
-  call-enters : (k i link next e q : ℕ) (p : Position) (d : ℕ) (stack : List ℕ) → k < P H .count → Asks H (calls (H .lent .image) (moduleOf (P H) k) i q e)
+  call-enters : (T : Told (H .lent .image) (P H)) → (k i link next e q : ℕ) (p : Position) (d : ℕ) (stack : List ℕ) → k < P H .count → Asks H (calls (H .lent .image) (moduleOf (P H) k) i q e)
       → LeadsTo (P H) (R H .unit) q k link next → Said q (call (H .lent) k i link next (machine (at p d (R H)) stack) (H .x))
   unfolding call written
-  call-enters k i link next e q p d stack l f leads = by-test (ltb (R H .h .0) (R H .s .0 + 4)) refl
+  call-enters T k i link next e q p d stack l f leads = by-test (ltb (R H .h .0) (R H .s .0 + 4)) refl
     where
       m : Module
       m = moduleOf (P H) k
@@ -129,7 +129,7 @@ module _ (H : Here) where
       by-test true t = tt
       by-test false t =
           let (lt, a, marks) = asks-call H p m i q e f in
-          let sound = H .told .laid .sound k l in
+          let sound = T .laid .sound k l in
           let r : R H .s .0 + 4 ≤ R H .h .0 = ltb-false _ _ t in
           let two : R H .s .0 + 2 ≡ R H .s .0 + 1 + 1 = omega arith in
           let entry = sym (part-mark image (P H) (H .lent .map) (H .fit) k (entryOf image m i) l (sound .entries i lt)) ∙ fits-part image (P H) (H .lent .map) (H .fit) k l .enters i lt in
@@ -139,7 +139,7 @@ module _ (H : Here) where
             results = resultsOf image m i;
             few = let s = sound .results i lt in omega arith;
             behind = marks;
-            promise = ap promised entry ∙ promised-mark (paramsOf image m i) (resultsOf image m i) (sound .params i lt);
+            promise = ap promised entry ∙ promised-mark (paramsOf image m i) (resultsOf image m i) 0 0 (omega (arith, sound .params i lt)) (omega (arith, sound .results i lt)) (omega arith);
             frame = refl;
             limit = refl;
             room = r;
@@ -147,21 +147,24 @@ module _ (H : Here) where
             leads = leads;
           }
 
-  perform-enters : (q : Position) {a : Action} → Calls a → (e : ℕ) → Asks H (flowOf (H .lent .image) (P H) (moduleOf (P H) (R H .unit)) (q .0) e a) → Said (q .0) (performOf (H .lent) a q (H .x))
+  perform-enters : (T : Told (H .lent .image) (P H)) → (q : Position) {a : Action} → Calls a → (e : ℕ) → Asks H (flowOf (H .lent .image) (P H) (moduleOf (P H) (R H .unit)) (q .0) e a) → Said (q .0) (performOf (H .lent) a q (H .x))
   unfolding performOf
-  perform-enters q (near i) e f = call-enters (R H .unit) i _ _ e (q .0) (R H .pc) (D H) (M H .stack) (H .kept .good .at .loaded) f (inl (refl, refl))
-  perform-enters q (linked i) e f = call-enters (R H .unit) i _ _ e (q .0) q (D H - 1) (set (M H .stack) (D H - 1) 0) (H .kept .good .at .loaded) f (inl (refl, refl))
-  perform-enters q (far k i) e f = let (l, g) = in-other H q k i (q .0) e f in call-enters k i _ _ e (q .0) (R H .pc) (D H) (M H .stack) l g (inr (refl, unit-based (H .told) (R H .unit) (H .kept .good .at .loaded)))
+  perform-enters T q (near i) e f = call-enters T (R H .unit) i _ _ e (q .0) (R H .pc) (D H) (M H .stack) (H .kept .good .at .loaded) f (inl (refl, refl))
+  perform-enters T q (linked i) e f = call-enters T (R H .unit) i _ _ e (q .0) q (D H - 1) (set (M H .stack) (D H - 1) 0) (H .kept .good .at .loaded) f (inl (refl, refl))
+  perform-enters T q (far k i) e f = let (l, g) = in-other H q k i (q .0) e f in call-enters T k i _ _ e (q .0) (R H .pc) (D H) (M H .stack) l g (inr (refl, unit-based (T) (R H .unit) (H .kept .good .at .loaded)))
 
   -- the next position
   abbrev Next : ℕ
   Next = R H .pc .0 + getD lengths (opcode H) 0
 
-  call-step : {y : State} → isCall (opcode H) ≡ true → stepOf (H .lent) (H .x) ≡ go y → Enters Next y
+  call-step : (T : Told (H .lent .image) (P H)) → {y : State} → isCall (opcode H) ≡ true → stepOf (H .lent) (H .x) ≡ go y → Enters Next y
   unfolding stepOf
-  call-step t e =
-      let c = calls-row _ _ _ (opcode H) (leb-true _ _ t) (decodes H .below) (rules H .listed) in
-      rw (decodes H .size) (subst (Said (nextAt H .0)) e (perform-enters (nextAt H) c _ (asked H)))
+  call-step T t e =
+      let l = leb-true 0o355 (opcode H) t in
+      let c = calls-row _ _ _ (opcode H) l (decodes H .below) (rules H .listed) in
+      let no-store = ne-eqb (opcode H) 0o262 (λ z. omega arith) in
+      let no-fetch = ne-eqb (opcode H) 0o260 (λ z. omega arith) in
+      rw (decodes H .size) (subst (Said (nextAt H .0)) e (perform-enters T (nextAt H) c _ (asked H no-store no-fetch)))
 
   -- ---- returns
 
@@ -177,13 +180,13 @@ module _ (H : Here) where
   unfolding backTo
   lands k t a = rw (lt-ltb k (P H .count) (a .loaded), marked-at (P H) (H .lent .map) k t (D H) a) refl
 
-  return-lands : (k t : ℕ) → R H .l .0 ≤ R H .h .0 → At (P H) (H .lent .map) k t (D H)
+  return-lands : (T : Told (H .lent .image) (P H)) → (k t : ℕ) → R H .l .0 ≤ R H .h .0 → At (P H) (H .lent .map) k t (D H)
       → LeadsTo (P H) k t (R H .unit) (wordIn (H .x) (R H .l .0)) (wordIn (H .x) (R H .l .0 + 2)) → returned (H .lent) (H .x) ≡ go (landed k t)
   unfolding returned
-  return-lands k t h a (inl (e, u)) =
-      let s : t < 0x7fff = omega (arith, a .within, H .told .laid .sound k (a .loaded) .short) in
+  return-lands T k t h a (inl (e, u)) =
+      let s : t < 0x7fff = omega (arith, a .within, T .laid .sound k (a .loaded) .short) in
       rw (le-ltb (R H .h .0) (R H .l .0) h, e, ne-eqb t 0x7fff (λ z. omega arith), lt-ltb t 0x8000 (omega arith)) (ap (λ (j : ℕ). backTo (H .lent) j t (H .x)) u ∙ lands k t a)
-  return-lands k t h a (inr (e, u)) =
+  return-lands T k t h a (inr (e, u)) =
       let m : t + 0x8000 - 0x8000 ≡ t = omega arith in
       rw (le-ltb (R H .h .0) (R H .l .0) h, e, ne-eqb (t + 0x8000) 0x7fff (λ z. omega arith), le-ltb (t + 0x8000) 0x8000 (omega arith), u, m) (lands k t a)
 
@@ -203,7 +206,7 @@ module _ (image map : List ℕ) (parsed : parse image .refusal ≡ 0) (fit : map
   Ok x = Kept program map w x
 
   abbrev here : List ℕ → (x : State) → Ok x → Here
-  here inputs x k = record { lent = lentTo image map inputs; told = told image parsed; fit = fit; w = w; x = x; kept = k }
+  here inputs x k = record { lent = lentTo image map inputs; fit = fit; w = w; x = x; kept = k }
 
   -- a return in the activation that a call began, through the frame that the call made
   returns : (given inputs : List ℕ) (x y z : State) (k : Ok x) → Ok z → Enters (here given x k) (Next (here given x k)) y → Stays program map (y .machine) (z .machine)
@@ -211,7 +214,7 @@ module _ (image map : List ℕ) (parsed : parse image .refusal ≡ 0) (fit : map
   returns given inputs x y z k kz E S op U = (
     landed Z u q,
     (
-      step-return Z op ∙ return-lands Z u q (omega (arith, frame, S .limit, E .limit, E .room)) there (back (E .leads)),
+      step-return Z op ∙ return-lands Z (told image parsed) u q (omega (arith, frame, S .limit, E .limit, E .room)) there (back (E .leads)),
       record { unit = refl; next = refl; frame = word 1 (omega arith); stack = frame; limit = S .limit ∙ E .limit },
     ),
   )
@@ -235,7 +238,7 @@ module _ (image map : List ℕ) (parsed : parse image .refusal ≡ 0) (fit : map
       word i h = ap (λ (j : ℕ). wordIn z (j + i)) (S .frame) ∙ U i h ∙ ap (λ (j : ℕ). wordIn y (j + i)) (E .frame) ∙ E .words i h
 
       deep : E .results ≡ D Z
-      deep = sym (E .promise) ∙ sym (S .promise) ∙ sym (returned-depth (Mark Z) (rw op at (rules Z .permitted))) ∙ kz .good .at .here
+      deep = sym (E .promise) ∙ sym (S .promise) ∙ sym (return-permitted (Mark Z) (rw op at (rules Z .permitted))) ∙ kz .good .at .here
 
       there : At program map u q (D Z)
       there = next-at (here given x k) q (D Z) (E .few) (E .behind) deep
@@ -254,7 +257,8 @@ module _ (image map : List ℕ) (parsed : parse image .refusal ≡ 0) (fit : map
       let H = here [] x k in
       let r = rules H in
       let e = D H - getD takens (opcode H) 0 + getD lefts (opcode H) 0 in
-      behind-stays x v k (r .room) (subst (λ (j : ℕ). Asks H (onward image program (U H) (R H .pc .0) j (Op H 1) (Op H 2) (Next H) e)) op (r .goes-on)) b
+      let f = subst (λ (j : ℕ). Follows (depths image program (U H)) (marksOf map (U H)) (carry (leaves (Mark H) j) (onward image program (U H) (R H .pc .0) j (Op H 1) (Op H 2) (Next H) e))) op (r .goes-on) in
+      behind-stays x v k (r .room) (f ∙ leaves-passed (Mark H) 0o256 e refl refl) b
 
   -- z is a machine in the activation of y: after a plain step, a whole call, a transfer; so within all of it
   record Same (y z : State) : Type 0 where
@@ -271,7 +275,7 @@ module _ (image map : List ℕ) (parsed : parse image .refusal ≡ 0) (fit : map
       → (Ok a → Same a b) → opcodeAt image (b .machine) ≡ 0o354 → Untouched a b → f inputs b ≡ go v → Same y v
   call-same given inputs {z = z} {a = a} {b = b} {v = v} s t e i op u g =
       let H = here given z (s .kept) in
-      let E = call-step H t e in
+      let E = call-step H (told image parsed) t e in
       let n = i (step-goes H e .0) in
       let (v′, (g′, B)) = returns given inputs z a b (s .kept) (n .kept) E (n .stays) op u in
       let c : v′ ≡ v = go-same (sym g′ ∙ g) in
@@ -299,7 +303,7 @@ call-returns image map parsed fit x y z g o given t e i op u inputs =
     let k : Kept P map w x = record { good = good-of P map w (x .machine) g; sized = refl; outs = o } in
     let H = here image map parsed fit w given x k in
     let s = same image map parsed fit w (step-goes H e .0) i in
-    returns image map parsed fit w given inputs x y z k (s .kept) (call-step H t e) (s .stays) op u
+    returns image map parsed fit w given inputs x y z k (s .kept) (call-step H (told image parsed) t e) (s .stays) op u
 
 pub main-ends : MainEnds
 unfolding MainEnds returned

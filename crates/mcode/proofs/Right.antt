@@ -11,12 +11,12 @@ use Rattle.mcode.specs.declared.Position.{Position}
 use Rattle.mcode.specs.declared.Machine.{Machine}
 use Rattle.mcode.specs.declared.Stop.{Stop}
 use Rattle.mcode.specs.declared.Value.{Value}
-use Rattle.mcode.specs.Decode.{Action, OrJump, AndJump, Transfer}
+use Rattle.mcode.specs.Decode.{Action, OrJump, AndJump, Transfer, Save, Fetch}
 use Rattle.mcode.specs.Word.{pick}
 use Rattle.mcode.specs.Image.{basesOf}
 use Rattle.mcode.specs.Depths.{passed}
-use Rattle.mcode.specs.Machine.{State, state, Outcome, go, halt, depth, second, take1}
-use Rattle.mcode.specs.Step.{goes, storesTo, inStore, lowAt, hasPair, inPair, readsPair, writesPair, computed, savedStore}
+use Rattle.mcode.specs.Machine.{State, state, Outcome, go, halt, depth, top, second, take1}
+use Rattle.mcode.specs.Step.{goes, storesTo, inStore, lowAt, hasPair, inPair, readsPair, writesPair, wordIn, computed, stacked, savedStore, fetchedStack}
 use Rattle.mcode.specs.Demands.{isPlain, Left}
 use Rattle.mcode.proofs.Rows.{takenBy, leftBy, ownOp}
 use Rattle.mcode.proofs.Faults.{Found, Real, is, fault}
@@ -29,6 +29,8 @@ module _ (H : Here) (n : Position) where
     no-or : {t : Position} → Left (D H - 1) (H .x) y → depth (y .machine) ≡ D H - 1 → Did y (OrJump t)
     no-and : {t : Position} → Left (D H - 1) (H .x) y → depth (y .machine) ≡ D H - 1 → Did y (AndJump t)
     other : {b : ℕ} → y .store ≡ savedStore (getD (basesOf (P H)) (R H .unit) 0) n (second (M H)) (H .x) (D H - 2) → depth (y .machine) ≤ 16 → Did y (Transfer b)
+    away : y .store ≡ stacked (M H .stack) (D H) (R H .s .0) (H .x .store) → depth (y .machine) ≡ 0 → Did y Save
+    again : (k : ℕ) → D H ≡ 1 → k ≡ wordIn (H .x) (R H .s .0 - 1) → k ≤ 15 → y .machine .stack ≡ fetchedStack (H .x .store) k (R H .s .0 - 1 - k) (top (M H)) → depth (y .machine) ≡ k + 1 → Did y Fetch
 
   -- the step to m stays in the activation, unless no opcode of the action is plain
   abbrev pub Leads : Action → Machine → Type 0

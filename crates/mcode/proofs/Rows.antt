@@ -1,19 +1,18 @@
 -- The rules of the opcode table, each proved once over the whole table by a test that antt computes. Assumes nothing.
-use mathlib.Core.Path.{_≡_, refl, ap, sym, _∙_}
+use mathlib.Core.Path.{_≡_, refl}
 use mathlib.Core.Bool.{Bool, true, false}
 use mathlib.Core.List.{List}
-use Prim.Native.Nat.{ℕ, _+_, _<_, _≤_}
-use lib.Dec.{T, eqb, leb, ltb, eqb→eq, leb→le}
+use Prim.Native.Nat.{ℕ, _<_, _≤_}
+use lib.Dec.{T, eqb, leb, eqb→eq, leb→le}
 use borrow.Author.Tests.{ne-eqb}
 use native.Mathlib.Omega.{arith}
-use lib.ListN.{getD, length, List·getD-eq-default}
+use lib.ListN.{getD, List·getD-eq-default}
 use native.Mathlib.Decide.{decLt}
-use Rattle.mcode.proofs.Every.{at, both}
+use Rattle.mcode.proofs.Every.{at}
 use Rattle.mcode.specs.declared.Registers.{Registers}
-use Rattle.mcode.specs.Decode.{Action, Put, AddTop, Jump, JumpZero, OrJump, AndJump, Load, LoadTop, LoadIndexed, Store, StoreBelow, StoreIndexed, LoadByte, StoreByte, One, Two, Three, Copy, Nothing, Read, Write, Trap, Enter, Follow, Call, CallLinked, CallExternal, Return, Transfer, PutPair, LoadPair, LoadPairTop, StorePair, StorePairBelow, Double}
+use Rattle.mcode.specs.Decode.{Action, Put, AddTop, Jump, JumpZero, OrJump, AndJump, Load, LoadTop, LoadIndexed, Store, StoreBelow, StoreIndexed, LoadByte, StoreByte, One, Two, Three, Copy, Nothing, Read, Write, Trap, Enter, Follow, Call, CallLinked, CallExternal, Return, Transfer, PutPair, LoadPair, LoadPairTop, StorePair, StorePairBelow, Double, Save, Fetch}
 use Rattle.mcode.specs.Opcode.{lengths, takens, lefts, usedBelow}
 use Rattle.mcode.specs.Demands.{Row, RowRule}
-use Rattle.mcode.specs.Depths.{target}
 use Rattle.mcode.specs.Decode.{decodeOf, row1, row2, row3, loads, stores, row8, row9, row10, row11, row12, row13, row14, row15}
 
 pub row-rule : (op : ℕ) → op < 256 → Row op
@@ -28,7 +27,7 @@ pub row-rule-holds : RowRule
 unfolding RowRule usedBelow lengths
 row-rule-holds = (row-rule, refl)
 
--- the words that an action takes from the stack, and those that it then puts
+-- the words that an action takes from the stack, and those that it then puts, as its row says
 abbrev pub takenBy : Action → ℕ
 takenBy (Put v) = 0
 takenBy (AddTop b) = 1
@@ -65,6 +64,8 @@ takenBy (LoadPairTop k) = 1
 takenBy (StorePair a) = 2
 takenBy (StorePairBelow k) = 3
 takenBy (Double op) = 4
+takenBy Save = 0
+takenBy Fetch = 1
 
 abbrev pub leftBy : Action → ℕ
 leftBy (Put v) = 1
@@ -102,6 +103,8 @@ leftBy (LoadPairTop k) = 2
 leftBy (StorePair a) = 0
 leftBy (StorePairBelow k) = 0
 leftBy (Double op) = 2
+leftBy Save = 0
+leftBy Fetch = 1
 
 -- the test holds, or the row is unused
 either : Bool → Bool → Bool
@@ -135,7 +138,7 @@ module _ (o : ℕ → ℕ) (r : Registers) (bases : List ℕ) where
   unfolding lengths lefts left-test either decodeOf row1 row2 row3 loads stores row8 row9 row10 row11 row12 row13 row14 row15
   left-row op h l = eqb→eq (getD lefts op 0) _ (used (getD lengths op 0) _ l (at left-test lefts tt op h))
 
--- 036, 037, 256 and 354 are the only opcodes of their actions, and calls are those from 355 on
+-- 036, 037, 256, 260, 262 and 354 are the only opcodes of their actions, and calls are those from 355 on
 abbrev pub ownOp : ℕ → Action → Bool
 ownOp op (Put v) = true
 ownOp op (AddTop b) = true
@@ -172,6 +175,8 @@ ownOp op (LoadPairTop k) = true
 ownOp op (StorePair a) = true
 ownOp op (StorePairBelow k) = true
 ownOp op (Double j) = true
+ownOp op Save = eqb op 0o262
+ownOp op Fetch = eqb op 0o260
 
 module _ (o : ℕ → ℕ) (r : Registers) (bases : List ℕ) where
   own-test : ℕ → ℕ → Bool

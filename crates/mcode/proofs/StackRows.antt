@@ -8,25 +8,24 @@ use lib.ListN.{getD}
 use lib.Dec.{T, eqb→eq}
 use Rattle.mcode.specs.Opcode.{lengths, takens, lefts}
 use Rattle.mcode.specs.Image.{parse}
-use Rattle.mcode.specs.Layout.{Told}
 use Rattle.mcode.specs.Depths.{mapFits}
 use Rattle.mcode.specs.Machine.{State, go, position, depth}
 use Rattle.mcode.specs.Decode.{Action}
 use Rattle.mcode.specs.Step.{stepOf}
 use Rattle.mcode.specs.Run.{lentTo}
-use Rattle.mcode.specs.Demands.{opcodeAt, Accounts, by-row, falls, changes}
+use Rattle.mcode.specs.Demands.{opcodeAt, Accounts, by-row, falls, changes, saves, fetches}
 use Rattle.mcode.proofs.Rows.{takenBy, leftBy, ownOp, own-row}
 use Rattle.mcode.proofs.Shapes.{Kept, Here, opcode}
 use Rattle.mcode.proofs.Keeps.{decoded, decodes, step-goes}
-use Rattle.mcode.proofs.Right.{Did, rows, no-or, no-and, other}
+use Rattle.mcode.proofs.Right.{Did, rows, no-or, no-and, other, away, again}
 
 long-transfer : getD lengths 0o256 0 ≡ 2
 unfolding lengths
 long-transfer = refl
 
-module _ (image map inputs : List ℕ) (told : Told image (parse image .program)) (fit : mapFits image (parse image .program) map ≡ true) (w : ℕ) (x y : State) (k : Kept (parse image .program) map w x) where
+module _ (image map inputs : List ℕ) (fit : mapFits image (parse image .program) map ≡ true) (w : ℕ) (x y : State) (k : Kept (parse image .program) map w x) where
   abbrev H : Here
-  H = record { lent = lentTo image map inputs; told = told; fit = fit; w = w; x = x; kept = k }
+  H = record { lent = lentTo image map inputs; fit = fit; w = w; x = x; kept = k }
 
   abbrev op : ℕ
   op = opcodeAt image (x .machine)
@@ -41,6 +40,8 @@ module _ (image map inputs : List ℕ) (told : Told image (parse image .program)
       let e : op ≡ 0o256 = eqb→eq op 0o256 o in
       let z : size ≡ 2 = sym s ∙ ap (λ (k : ℕ). getD lengths k 0) e ∙ long-transfer in
       changes e (rw z at q) f
+  from-did a size s t u o (away q d) = saves (eqb→eq op 0o262 o) q d
+  from-did a size s t u o (again k d w l q e) = fetches (eqb→eq op 0o260 o) d k w l q e
 
   pub account : stepOf (lentTo image map inputs) x ≡ go y → Accounts image x y
   account e =

@@ -7,18 +7,16 @@ use mathlib.Core.Bool.{Bool, true, false, not, false≢true}
 use mathlib.Core.List.{List, [], _∷_, _++_}
 use Prim.Native.Nat.{ℕ, zero, suc, _+_, _-_, _*_, _≤_, _<_}
 use native.Mathlib.Omega.{arith}
-use native.Mathlib.Nat.{not-suc-le-zero}
-use lib.ListN.{length, getD, replicate, length-replicate, List·getD-eq-default, getD-replicate}
+use lib.ListN.{length, replicate, length-replicate, List·getD-eq-default, getD-replicate}
 use lib.Dec.{ltb, leb, eqb}
-use borrow.Author.Tests.{ltb-true, le-ltb, leb-true, eqb-true, eqb-false, ne-eqb}
+use borrow.Author.Tests.{ltb-true, le-ltb, leb-true, eqb-true, eqb-false}
 use Rattle.mcode.specs.declared.Flow.{Flow}
 use Rattle.mcode.specs.declared.Flow.the-variants.{Fault, Ends, To, Fork}
-use Rattle.mcode.specs.declared.Program.{Program}
-use Rattle.mcode.specs.Word.{pick, and, or, allBelow, anyBelow, byte}
+use Rattle.mcode.specs.Word.{pick, and, or, allBelow, anyBelow}
 use Rattle.mcode.specs.Image.{parse, moduleOf, inCode}
-use Rattle.mcode.specs.Depths.{Analysis, mark, Marked, Follows, Fits, Fewest, NoneFits, fits, unmarked, depths, marksOf, mapFits, KeptPast, Accepted, Blanked}
+use Rattle.mcode.specs.Depths.{Analysis, mark, Follows, Fits, Fewest, NoneFits, fits, unmarked, entry, depths, marksOf, mapFits, KeptPast, Blanked}
 use Rattle.mcode.specs.Walk.{wholeAt, walk, Reached, Whole}
-use Rattle.mcode.specs.Run.{verdict, faultAt, Judged, accepts as judges, breaks, unfit, Loads}
+use Rattle.mcode.specs.Run.{verdict, faultAt, accepts as judges, breaks, unfit, Loads}
 use Rattle.mcode.proofs.Tests.{and-both, or-either, or-second, not-is, all-at, any-at, inside, fits-says}
 
 -- a position and a mark
@@ -263,8 +261,8 @@ accepts image map e t =
           (all-at (P .count) (λ k. fits (depths image P (moduleOf P k)) (marksOf map (moduleOf P k))) x k l)
           (all-at (P .count) (λ k. leastTest (depths image P (moduleOf P k)) (marksOf map (moduleOf P k))) c k l);
       outside = λ i l o.
-          eqb-true _ _ (or-second (inCode P i) (eqb (byte map i) unmarked) (λ q. false≢true (sym o ∙ q))
-          (all-at (length image) (λ i. or (inCode P i) (eqb (byte map i) unmarked)) y i l));
+          eqb-true _ _ (or-second (inCode P i) (eqb (entry map i) unmarked) (λ q. false≢true (sym o ∙ q))
+          (all-at (length image) (λ i. or (inCode P i) (eqb (entry map i) unmarked)) y i l));
       kept = kept-short image (replicate (length image) 0) map (length-replicate (length image) 0) (eqb-true _ _ a);
     }))
 

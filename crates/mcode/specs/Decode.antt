@@ -47,6 +47,8 @@ pub data Action : Type 0 where
   StorePair : Address → Action
   StorePairBelow : ℕ → Action  -- at e + k, below the pair
   Double : ℕ → Action  -- the opcode's pair of two pairs (Word: doubleOf)
+  Save : Action  -- STORE, 262
+  Fetch : Action  -- LODFW, 260
 
 pub record Decoded : Type 0 where
   pub action : Action
@@ -145,12 +147,14 @@ row10 op b =
     (pick (eqb op 0o256) (sized 2 (Transfer b))
     (sized 0 Nothing)))))
 
--- "265 doubles a"; 270-277
+-- "STORE (262) and LODFW (260)"; "265 doubles a"; 270-277
 unfoldable pub row11 : ℕ → Decoded
 row11 op =
-    pick (eqb op 0o265) (sized 1 Copy)
+    pick (eqb op 0o260) (sized 1 Fetch)
+    (pick (eqb op 0o262) (sized 1 Save)
+    (pick (eqb op 0o265) (sized 1 Copy)
     (pick (leb 0o270 op) (sized 1 (Two op))
-    (sized 0 Nothing))
+    (sized 0 Nothing))))
 
 -- "304: trap 40 with code a"; 305 and 306, checks; 310-315, comparisons; 316 and 317
 unfoldable pub row12 : ℕ → Decoded

@@ -1,12 +1,12 @@
 -- Depths: what a fitting assignment of marks is, for any analysis of one module's code; then the paper's rules as one analysis.
--- A mark is a number, and only this file knows what it encodes: a depth and a result count, and FF hex where a position is unmarked.
+-- A mark is a number, and only this file knows what it encodes: a depth, a result count and the saved depths, or that there is none.
 use Prim.Native.Nat.{ℕ, zero, suc, _+_, _-_, _*_, _/_, _%_, _≤_, _<_}
 use mathlib.Core.Path.{_≡_}
-use mathlib.Core.Bool.{Bool, true, false, not}
+use mathlib.Core.Bool.{Bool, true, false}
 use mathlib.Core.List.{List, _++_}
 use lib.ListN.{length, getD, take, drop, replicate}
 use lib.Dec.{ltb, leb, eqb}
-use Rattle.mcode.specs.Word.{pick, and, or, allBelow, wrap, byte, wordOf}
+use Rattle.mcode.specs.Word.{pick, and, or, allBelow, wrap, wordOf}
 use Rattle.mcode.specs.Opcode.{lengths, takens, lefts}
 use Rattle.mcode.specs.Image.{moduleOf, codeByte, procCount, entryOf, paramsOf, resultsOf, inCode}
 use Rattle.mcode.specs.declared.Module.{Module}
@@ -72,31 +72,64 @@ fits A m =
 
 -- ---- marks
 
--- "FF stays unmarked."
+-- "all ones is unmarked"
 abbrev pub unmarked : ℕ
-unmarked = 0xff
+unmarked = 0xffff_ffff
 
--- "A map byte becomes depth + 17 x results."
-unfoldable pub markOf : ℕ → ℕ → ℕ
-markOf depth results = depth + 17 * results
+-- "depth in bits 0 to 4, results 5 to 7, list length 8 to 10, then five bits for each saved depth from the front, unused bits 0": a mark
+-- with n saved depths in the list l, of which the front one is the lowest five bits
+unfoldable pub markOf : ℕ → ℕ → ℕ → ℕ → ℕ
+markOf depth results n l = depth + 32 * (results + 8 * (n + 8 * l))
 
 unfoldable pub depthOf : ℕ → ℕ
-depthOf k = k % 17
+depthOf k = k % 32
 
 unfoldable pub promised : ℕ → ℕ
-promised k = k / 17
+promised k = k / 32 % 8
 
--- "a depth 0 to 16", "a result count of 0 to 4"
+unfoldable pub saves : ℕ → ℕ
+saves k = k / 256 % 8
+
+unfoldable pub listOf : ℕ → ℕ
+listOf k = k / 2048
+
+-- the front saved depth
+unfoldable pub frontOf : ℕ → ℕ
+frontOf k = listOf k % 32
+
+-- n saved depths, each 0 to 16, and no other bit
+unfoldable pub isList : ℕ → ℕ → Bool
+isList zero l = eqb l 0
+isList (suc n) l = and (leb (l % 32) 16) (isList n (l / 32))
+
+-- "a depth 0 to 16", "a result count of 0 to 4", "a list of at most four saved depths"
 unfoldable pub isMark : ℕ → Bool
-isMark k = leb k 84
+isMark k = and (leb (depthOf k) 16) (and (leb (promised k) 4) (and (leb (saves k) 4) (isList (saves k) (listOf k))))
 
--- what a successor has at depth e: "a successor has its predecessor's" result count
+-- what a successor has at depth e: "a successor has its predecessor's" result count; "every other instruction passes its list on"
 unfoldable pub passed : ℕ → ℕ → ℕ
-passed k e = markOf e (promised k)
+passed k e = e + 32 * (k / 32)
 
--- "RTN needs a depth equal to it."
+-- "STORE adds its depth to the front"; "the depth is then 0"
+unfoldable pub stored : ℕ → ℕ
+stored k = markOf 0 (promised k) (saves k + 1) (depthOf k + 32 * listOf k)
+
+-- "LODFW removes the front one": its words and the result on top
+unfoldable pub fetched : ℕ → ℕ
+fetched k = markOf (frontOf k + 1) (promised k) (saves k - 1) (listOf k / 32)
+
+-- the mark that a successor of the instruction op has, at a position with mark k, where its row leaves the depth e
+unfoldable pub leaves : ℕ → ℕ → ℕ → ℕ
+leaves k op e = pick (eqb op 0o262) (stored k) (pick (eqb op 0o260) (fetched k) (passed k e))
+
+-- "RTN needs a depth equal to" the result count, and "none" saved; STORE a list that has room, "of at most four"; "LODFW needs depth 1"
+-- and a front one, "which must be at most 15"
 unfoldable pub permits : ℕ → ℕ → Bool
-permits k op = or (not (eqb op 0o354)) (eqb (depthOf k) (promised k))
+permits k op =
+    pick (eqb op 0o354) (and (eqb (depthOf k) (promised k)) (eqb (saves k) 0))
+    (pick (eqb op 0o262) (ltb (saves k) 4)
+    (pick (eqb op 0o260) (and (eqb (depthOf k) 1) (and (leb 1 (saves k)) (leb (frontOf k) 15)))
+    true))
 
 -- ---- the rules of the paper, which speak of depths
 
@@ -175,53 +208,60 @@ carry f (Fork q d r e) = Fork q (f d) r (f e)
 -- what follows position p of module m with mark k
 unfoldable pub flowAt : List ℕ → Program → Module → ℕ → ℕ → Flow
 flowAt image program m p k =
+    let op = codeByte image m p in
     pick (isMark k)
-    (pick (permits k (codeByte image m p)) (carry (passed k) (depthFlow image program m p (depthOf k))) Fault)
+    (pick (permits k op) (carry (leaves k op) (depthFlow image program m p (depthOf k))) Fault)
     Fault
 
--- the marks of one module's code: "every entry with its parameter count", "an entry has its procedure's" result count
+-- the marks of one module's code: "every entry with its parameter count", "an entry has its procedure's" result count, "an entry starts
+-- with none" saved
 abbrev pub depths : List ℕ → Program → Module → Analysis
 depths image program m = record {
   size = m .length;
   none = unmarked;
   entries = procCount m;
   entryAt = entryOf image m;
-  entryMark = λ i. markOf (paramsOf image m i) (resultsOf image m i);
+  entryMark = λ i. markOf (paramsOf image m i) (resultsOf image m i) 0 0;
   flow = flowAt image program m;
 }
 
+-- "32-bit entries, one per image byte"
+abbrev pub entry : List ℕ → ℕ → ℕ
+entry map i = getD map i 0
+
 -- the map's mark of position q of module m
 abbrev pub markAt : List ℕ → Module → ℕ → ℕ
-markAt map m q = byte map (m .code + q)
+markAt map m q = entry map (m .code + q)
 
--- the map marks position q of module m, which lies in the code, with depth d. "A landing still compares the depth only."
+-- the map marks position q of module m, which lies in the code, with depth d (unmarked has none: its lowest five bits are 31). "A
+-- landing still compares the depth only."
 unfoldable pub marked : List ℕ → Module → ℕ → ℕ → Bool
-marked map m q d = and (ltb q (m .length)) (and (isMark (markAt map m q)) (eqb (depthOf (markAt map m q)) d))
+marked map m q d = and (ltb q (m .length)) (and (leb d 16) (eqb (depthOf (markAt map m q)) d))
 
--- module m's part of the map: "one byte per image byte"
+-- module m's part of the map
 abbrev pub marksOf : List ℕ → Module → List ℕ
 marksOf map m = take (m .length) (drop (m .code) map)
 
--- run's test of a lent map: each module's part fits, and "an image byte outside the code must have FF"
+-- run's test of a lent map: each module's part fits, and "an image byte outside the code must have FF", now all ones
 unfoldable pub mapFits : List ℕ → Program → List ℕ → Bool
 mapFits image program map =
     and (allBelow (program .count) (λ k. fits (depths image program (moduleOf program k)) (marksOf map (moduleOf program k))))
-    (allBelow (length image) (λ i. or (inCode program i) (eqb (byte map i) unmarked)))
+    (allBelow (length image) (λ i. or (inCode program i) (eqb (entry map i) unmarked)))
 
 -- "Map bytes past the image stay unchanged."
 pub record KeptPast (image before after : List ℕ) : Type 0 where
   pub long : length after ≡ length before
-  pub past : (i : ℕ) → length image ≤ i → byte after i ≡ byte before i
+  pub past : (i : ℕ) → length image ≤ i → entry after i ≡ entry before i
 
--- load accepts: each module's part of the map is the fewest, and the rest of the image has FF
+-- load accepts: each module's part of the map is the fewest, and the rest of the image is unmarked
 pub record Accepted (image : List ℕ) (program : Program) (before after : List ℕ) : Type 0 where
   pub fewest : (k : ℕ) → k < program .count → Fewest (depths image program (moduleOf program k)) (marksOf after (moduleOf program k))
-  pub outside : (i : ℕ) → i < length image → inCode program i ≡ false → byte after i ≡ unmarked
+  pub outside : (i : ℕ) → i < length image → inCode program i ≡ false → entry after i ≡ unmarked
   pub kept : KeptPast image before after
 
--- a refusal that fills the map: "FF over the image's length"
+-- a refusal that fills the map: "FF over the image's length", now all ones
 pub record Blanked (image before after : List ℕ) : Type 0 where
-  pub blank : (i : ℕ) → i < length image → byte after i ≡ unmarked
+  pub blank : (i : ℕ) → i < length image → entry after i ≡ unmarked
   pub kept : KeptPast image before after
 
 -- "no depths fit": some module has no fitting assignment

@@ -6,7 +6,7 @@ use lib.ListN.{length, getD, set, replicate}
 use lib.Dec.{ltb, leb, eqb}
 use Rattle.mcode.specs.Word.{pick, and, wrap, byteOf, withByte, oneOf, twoOf, threeOf, paired, highOf, lowOf, doubleOf}
 use Rattle.mcode.specs.Image.{moduleOf, basesOf, codeByte, entryOf, margin}
-use Rattle.mcode.specs.Depths.{marked}
+use Rattle.mcode.specs.Depths.{frontOf, markAt, marked}
 use Rattle.mcode.specs.Machine.{State, state, Outcome, go, halt, address, position, machine, at, framed, depth, top, second, third, fourth, on, take1, take2, take3, put, replace1, replace2, replace3, putPair, pairFor1, pairFor4}
 use Rattle.mcode.specs.declared.Address.{Address}
 use Rattle.mcode.specs.declared.Position.{Position}
@@ -17,7 +17,7 @@ use Rattle.mcode.specs.declared.Stop.{Stop}
 use Rattle.mcode.specs.declared.Stop.the-variants.{Ended, BadAddress, StackLimit, ReturnMark, BadProcess, BadChannel, Program as OfProgram}
 use Rattle.mcode.specs.declared.Value.{Value}
 use Rattle.mcode.specs.declared.Value.the-variants.{Is, Fault}
-use Rattle.mcode.specs.Decode.{Decoded, decodeOf, Action, Put, AddTop, Jump, JumpZero, OrJump, AndJump, Load, LoadTop, LoadIndexed, Store, StoreBelow, StoreIndexed, LoadByte, StoreByte, One, Two, Three, Copy, Nothing, Read, Write, Trap, Enter, Follow, Call, CallLinked, CallExternal, Return, Transfer, PutPair, LoadPair, LoadPairTop, StorePair, StorePairBelow, Double}
+use Rattle.mcode.specs.Decode.{Decoded, decodeOf, Action, Put, AddTop, Jump, JumpZero, OrJump, AndJump, Load, LoadTop, LoadIndexed, Store, StoreBelow, StoreIndexed, LoadByte, StoreByte, One, Two, Three, Copy, Nothing, Read, Write, Trap, Enter, Follow, Call, CallLinked, CallExternal, Return, Transfer, PutPair, LoadPair, LoadPairTop, StorePair, StorePairBelow, Double, Save, Fetch}
 
 -- what a run is lent and only reads
 pub record Lent : Type 0 where
@@ -170,6 +170,10 @@ unfoldable pub restored : List ℕ → ℕ → ℕ → List ℕ → List ℕ
 restored store zero a stack = stack
 restored store (suc k) a stack = restored store k (a + 1) (set stack k (getD store a 0))
 
+-- n words of the stack from s up, "top first, then its count"
+abbrev pub stacked : List ℕ → ℕ → ℕ → List ℕ → List ℕ
+stacked stack n s store = set (saved stack n s store) (s + n) n
+
 -- words from a up
 unfoldable pub written : List ℕ → ℕ → List ℕ → List ℕ
 written [] a store = store
@@ -184,7 +188,7 @@ savedStore g q c x n =
     let p = r .p .0 in
     set
     (written (g ∷ r .l .0 ∷ q .0 ∷ r .mask ∷ (s + n + 1) ∷ (r .h .0 + margin) ∷ []) p
-    (set (saved (x .machine .stack) n s (x .store)) (s + n) n))
+    (stacked (x .machine .stack) n s (x .store)))
     c p
 
 -- "P = q. Restore G, L, S = s-1-k, H = v-24, the k words; M only if b /= 0."
@@ -225,6 +229,37 @@ transferred lent b next x =
     (inStore x c
     (pick (eqb q p) (storesTo x (take2 next m) (set (x .store) c p))
     (switched lent b next c q x)))
+
+-- ---- 262 and 260, around a function call inside an expression
+
+-- "STORE writes the expression stack from S up, top first, then its count, and raises S; beyond H it is trap 33. The depth is then 0."
+unfoldable pub stackSaved : Position → State → Outcome
+stackSaved q x =
+    let m = x .machine in
+    let r = m .registers in
+    let s = r .s .0 in
+    pick (ltb (r .h .0) (s + depth m + 1)) (halt StackLimit)
+    (storesTo x (machine (at q 0 (framed (r .unit) (r .l .0) (s + depth m + 1) r)) (replicate 16 0)) (stacked (m .stack) (depth m) s (x .store)))
+
+-- "the recorded front": of the mark where the machine stands
+abbrev pub frontAt : Lent → Registers → ℕ
+frontAt lent r = frontOf (markAt (lent .map) (moduleOf (lent .program) (r .unit)) (r .pc .0))
+
+-- the stack of n words from a up, the lowest of them on top, and v above
+abbrev pub fetchedStack : List ℕ → ℕ → ℕ → ℕ → List ℕ
+fetchedStack store n a v = restored store n a (set (replicate 16 0) n v)
+
+-- "LODFW takes the result, lowers S past the count and the words, restores them and puts the result on top." "At run time a count other
+-- than the recorded front, or fewer words below S, is trap 34."
+unfoldable pub stackFetched : Lent → Position → State → Outcome
+stackFetched lent q x =
+    let m = x .machine in
+    let r = m .registers in
+    let s = r .s .0 in
+    let n = frontAt lent r in
+    pick (and (ltb n s) (eqb (wordIn x (s - 1)) n))
+    (goes x (machine (at q (n + 1) (framed (r .unit) (r .l .0) (s - 1 - n) r)) (fetchedStack (x .store) n (s - 1 - n) (top m))))
+    (halt ReturnMark)
 
 -- ---- every action
 
@@ -286,6 +321,8 @@ performOf lent (Double op) q x =
     let m = x .machine in
     let n = doubleOf op (paired (fourth m) (third m)) (paired (second m) (top m)) in
     goes x (pairFor4 q m (highOf n) (lowOf n))
+performOf lent Save q x = stackSaved q x
+performOf lent Fetch q x = stackFetched lent q x
 
 -- one step
 unfoldable pub stepOf : Lent → State → Outcome

@@ -168,8 +168,8 @@ pub struct Parsed {
 pub enum Flow {
     Fault,
     Ends,
-    To(usize, u8),
-    Fork(usize, u8, usize, u8),
+    To(usize, u32),
+    Fork(usize, u32, usize, u32),
 }
 
 // A computed word, or the trap that stands in its place.

@@ -27,7 +27,13 @@ fn store_words(chosen: usize, most: usize) -> usize
 }
 
 // The reading of an image.
-fn put_reading(name: &[u8], image: &mut [u8], map: &mut [u8], store: &mut [u16], options: Options) {
+fn put_reading(
+    name: &[u8],
+    image: &mut [u8],
+    map: &mut [u32],
+    store: &mut [u16],
+    options: Options,
+) {
     let mut outputs = [0u16; 16];
     let inputs = options.inputs;
     let w = store_words(options.store, store.len());
@@ -58,7 +64,7 @@ fn put_file(
     name: &[u8],
     several: bool,
     image: &mut [u8],
-    map: &mut [u8],
+    map: &mut [u32],
     store: &mut [u16],
     options: Options,
 ) {
@@ -81,7 +87,7 @@ fn put_argument(
     is_value: bool,
     several: bool,
     image: &mut [u8],
-    map: &mut [u8],
+    map: &mut [u32],
     store: &mut [u16],
     options: Options,
 ) -> bool {
@@ -100,7 +106,13 @@ fn put_argument(
 }
 
 // The readings of all files.
-fn put_files(several: bool, image: &mut [u8], map: &mut [u8], store: &mut [u16], options: Options) {
+fn put_files(
+    several: bool,
+    image: &mut [u8],
+    map: &mut [u32],
+    store: &mut [u16],
+    options: Options,
+) {
     let count = os::arg_count();
     let mut is_value = false;
     let mut i: usize = 1;
@@ -112,7 +124,7 @@ fn put_files(several: bool, image: &mut [u8], map: &mut [u8], store: &mut [u16],
 
 fn main() {
     let mut image = [0u8; 65536];
-    let mut map = [0u8; 65536];
+    let mut map = [0u32; 65535];
     let mut store = [0u16; 65536];
     let asked = arguments::gathered(b"reading");
     if asked.help {

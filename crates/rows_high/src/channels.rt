@@ -40,7 +40,7 @@ pub fn row10(
     r: Core,
     image: &[u8],
     table: &[u16; 193],
-    map: &[u8],
+    map: &[u32],
     stack: &mut [u16; 16],
     store: &mut [u16],
     inputs: &[u16],

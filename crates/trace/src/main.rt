@@ -48,7 +48,7 @@ fn put_refusal(
     name: &[u8],
     image: &mut [u8],
     n: usize,
-    map: &mut [u8],
+    map: &mut [u32],
     number: u16,
 ) {
     if n <= image.len() {
@@ -83,7 +83,7 @@ fn put_end(ran: Ran, outputs: [u16; 16]) {
 fn put_steps(
     machine: Machine,
     image: &[u8],
-    map: &[u8],
+    map: &[u32],
     store: &mut [u16],
     before: &mut [u16],
     inputs: [u16; 16],
@@ -120,7 +120,7 @@ fn put_steps(
 // The trace of an image that load accepts, or the number of start's refusal.
 fn put_run(
     image: &[u8],
-    map: &[u8],
+    map: &[u32],
     store: &mut [u16],
     before: &mut [u16],
     options: Options,
@@ -154,7 +154,7 @@ fn put_run(
 // The trace of an image, or the number of its refusal.
 fn put_image(
     image: &[u8],
-    map: &mut [u8],
+    map: &mut [u32],
     store: &mut [u16],
     before: &mut [u16],
     options: Options,
@@ -203,7 +203,7 @@ fn put_bytes(
     }
     text(out, used, name);
     text(out, used, b":\n");
-    let mut map = io::large_buffer();
+    let mut map = [0u32; 65535];
     let number = put_image(
         first(image, n),
         &mut map,

@@ -28,7 +28,7 @@ fn is_spent(ending: Ending) -> bool {
 fn more(
     ran: Ran,
     image: &[u8],
-    map: &[u8],
+    map: &[u32],
     store: &mut [u16],
     outputs: &mut [u16],
     inputs: &[u16],
@@ -58,7 +58,7 @@ struct Done {
 fn turns(
     machine: Machine,
     image: &[u8],
-    map: &[u8],
+    map: &[u32],
     store: &mut [u16],
     outputs: &mut [u16],
     inputs: &[u16],
@@ -104,7 +104,7 @@ fn turns(
 pub fn traced(
     machine: Machine,
     image: &[u8],
-    map: &[u8],
+    map: &[u32],
     store: &mut [u16],
     outputs: &mut [u16],
     inputs: &[u16],

@@ -10,7 +10,7 @@ fn main() {
     let mut buffer = [0u8; 4096];
     let mut text = [0u8; 4096];
     let mut image = [0u8; 65600];
-    let mut map = [0u8; 65600];
+    let mut map = [0u32; 65600];
     let mut store = [0u16; 65600];
     let begun = input::header(&mut buffer);
     let at = replay::cases(

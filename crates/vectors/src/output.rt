@@ -51,18 +51,18 @@ pub fn put_words(text: &mut [u8; 4096], at: usize, words: &[u16]) -> usize {
     next
 }
 
-fn put_byte(text: &mut [u8; 4096], at: usize, byte: u8) -> usize {
+fn put_entry(text: &mut [u8; 4096], at: usize, entry: u32) -> usize {
     let mut digits = [0u8; 16];
-    let count = io::hex(byte as u64, 2, &mut digits);
+    let count = io::hex(entry as u64, 8, &mut digits);
     put_text(text, at, &digits[..count])
 }
 
-// Each byte in hex, two digits.
-pub fn put_bytes(text: &mut [u8; 4096], at: usize, bytes: &[u8]) -> usize {
+// Each entry in hex, eight digits.
+pub fn put_entries(text: &mut [u8; 4096], at: usize, entries: &[u32]) -> usize {
     let mut next = at;
     let mut i: usize = 0;
-    while i < bytes.len() {
-        next = put_byte(text, next, bytes[i]);
+    while i < entries.len() {
+        next = put_entry(text, next, entries[i]);
         i += 1;
     }
     next

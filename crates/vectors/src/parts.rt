@@ -9,6 +9,10 @@ pub fn bytes_of(all: &[u8], n: usize) -> &[u8] {
     if n <= all.len() { &all[0..n] } else { all }
 }
 
+pub fn entries_of(all: &[u32], n: usize) -> &[u32] {
+    if n <= all.len() { &all[0..n] } else { all }
+}
+
 pub fn words_of(all: &[u16], n: usize) -> &[u16] {
     if n <= all.len() { &all[0..n] } else { all }
 }

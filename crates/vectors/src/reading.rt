@@ -38,9 +38,9 @@ pub struct Run {
 }
 
 // An index at or past the end sets nothing.
-fn set_byte(bytes: &mut [u8; 65600], i: usize, byte: u8) {
+fn set_entry(entries: &mut [u32; 65600], i: usize, entry: u32) {
     if i < 65600 {
-        bytes[i] = byte;
+        entries[i] = entry;
     }
 }
 
@@ -50,10 +50,10 @@ fn set_word(words: &mut [u16; 65600], i: usize, word: u16) {
     }
 }
 
-fn fill_bytes(bytes: &mut [u8; 65600], n: usize, byte: u8) {
+fn fill_entries(entries: &mut [u32; 65600], n: usize, entry: u32) {
     let mut i: usize = 0;
     while i < n {
-        set_byte(bytes, i, byte);
+        set_entry(entries, i, entry);
         i += 1;
     }
 }
@@ -126,7 +126,7 @@ pub fn read_case(
     buffer: &mut [u8; 4096],
     from: Input,
     image: &mut [u8; 65600],
-    map: &mut [u8; 65600],
+    map: &mut [u32; 65600],
     store: &mut [u16; 65600],
 ) -> Case {
     let size = next_length(buffer, from);
@@ -134,9 +134,9 @@ pub fn read_case(
     let after = read_image(buffer, size, image, n);
     let marks = next_length(buffer, after);
     let m = marks.number as usize;
-    let byte = next_word(buffer, marks);
-    fill_bytes(map, m, low_byte(byte.number));
-    let words = next_length(buffer, byte);
+    let entry = next_long(buffer, marks);
+    fill_entries(map, m, entry.number);
+    let words = next_length(buffer, entry);
     let w = words.number as usize;
     let word = next_word(buffer, words);
     fill_words(store, w, low_word(word.number));
@@ -157,7 +157,7 @@ pub fn read_case(
 pub fn read_run(
     buffer: &mut [u8; 4096],
     before: Run,
-    map: &mut [u8; 65600],
+    map: &mut [u32; 65600],
     store: &mut [u16; 65600],
 ) -> Run {
     let from = before.input;
@@ -256,11 +256,11 @@ fn first_half(list: [u16; 32]) -> [u16; 16] {
     ]
 }
 
-fn patch_byte(buffer: &mut [u8; 4096], from: Input, map: &mut [u8; 65600]) -> Input {
+fn patch_entry(buffer: &mut [u8; 4096], from: Input, map: &mut [u32; 65600]) -> Input {
     let offset = next_word(buffer, from);
-    let byte = next_word(buffer, offset);
-    set_byte(map, offset.number as usize, low_byte(byte.number));
-    byte
+    let entry = next_long(buffer, offset);
+    set_entry(map, offset.number as usize, entry.number);
+    entry
 }
 
 fn patch_word(buffer: &mut [u8; 4096], from: Input, store: &mut [u16; 65600]) -> Input {
@@ -271,11 +271,11 @@ fn patch_word(buffer: &mut [u8; 4096], from: Input, store: &mut [u16; 65600]) ->
 }
 
 // The patches of a run: their number, and for each an index and a value.
-fn patch_map(buffer: &mut [u8; 4096], from: Input, map: &mut [u8; 65600]) -> Input {
+fn patch_map(buffer: &mut [u8; 4096], from: Input, map: &mut [u32; 65600]) -> Input {
     let mut next = next_word(buffer, from);
     let mut left = next.number;
     while 0 < left {
-        next = patch_byte(buffer, next, map);
+        next = patch_entry(buffer, next, map);
         left -= 1;
     }
     next

@@ -1,7 +1,7 @@
 // Replays cases, and prints a line for load and start and a line for every run.
 use crate::input::Input;
 use crate::input::next_word;
-use crate::output::put_bytes;
+use crate::output::put_entries;
 use crate::output::put_line_end;
 use crate::output::put_named;
 use crate::output::put_number;
@@ -10,6 +10,7 @@ use crate::output::put_word;
 use crate::output::put_words;
 use crate::parts::Sums;
 use crate::parts::bytes_of;
+use crate::parts::entries_of;
 use crate::parts::sums_of_words;
 use crate::parts::words_of;
 use crate::reading::Case;
@@ -81,7 +82,7 @@ fn code_of(ending: Ending) -> u16 {
 }
 
 // Load, start and run on the first words or bytes of the buffers, as many as the case says: never more than there are.
-fn load_part(image: &[u8], n: usize, map: &mut [u8], m: usize) -> Verdict {
+fn load_part(image: &[u8], n: usize, map: &mut [u32], m: usize) -> Verdict {
     if m <= map.len() {
         return loader::load::load(bytes_of(image, n), &mut map[0..m]);
     }
@@ -99,7 +100,7 @@ fn print_begun(
     text: &mut [u8; 4096],
     at: usize,
     load: Verdict,
-    map: &[u8],
+    map: &[u32],
     started: Started,
     store: Sums,
 ) -> usize {
@@ -109,7 +110,7 @@ fn print_begun(
     next = put_named(text, next, b" place", load.unit as u64);
     next = put_word(text, next, pc);
     next = put_text(text, next, b" map ");
-    next = put_bytes(text, next, map);
+    next = put_entries(text, next, map);
     next = put_named(text, next, b" start", started.number as u64);
     next = print_sums(text, next, b" store", store);
     next = print_machine(text, next, machine);
@@ -132,7 +133,7 @@ fn print_ran(text: &mut [u8; 4096], at: usize, ran: Ran, outputs: &[u16], store:
 fn run_part(
     run: Run,
     image: &[u8],
-    map: &[u8],
+    map: &[u32],
     store: &mut [u16],
     w: usize,
     outputs: &mut [u16],
@@ -170,7 +171,7 @@ fn replay_run(
     before: Progress,
     case: Case,
     image: &[u8; 65600],
-    map: &mut [u8; 65600],
+    map: &mut [u32; 65600],
     store: &mut [u16; 65600],
     outputs: &mut [u16; 32],
 ) -> Progress {
@@ -186,7 +187,7 @@ fn replay_run(
     let ran = run_part(
         run,
         bytes_of(image, case.image),
-        bytes_of(map, case.map),
+        entries_of(map, case.map),
         store,
         case.store,
         outputs,
@@ -206,7 +207,7 @@ fn replay_runs(
     count: u32,
     case: Case,
     image: &[u8; 65600],
-    map: &mut [u8; 65600],
+    map: &mut [u32; 65600],
     store: &mut [u16; 65600],
 ) -> Places {
     let mut outputs = case.outputs;
@@ -239,13 +240,13 @@ fn begin(
     at: usize,
     case: Case,
     image: &[u8; 65600],
-    map: &mut [u8; 65600],
+    map: &mut [u32; 65600],
     store: &mut [u16; 65600],
 ) -> Progress {
     let load = load_part(image, case.image, map, case.map);
     let started = start_part(image, case.image, store, case.store);
     let sums = sums_of_words(words_of(store, case.store));
-    let out = print_begun(text, at, load, bytes_of(map, case.map), started, sums);
+    let out = print_begun(text, at, load, entries_of(map, case.map), started, sums);
     let machine = started.machine;
     let input = case.input;
     let run = Run {
@@ -265,7 +266,7 @@ fn replay_case(
     at: Places,
     k: u32,
     image: &mut [u8; 65600],
-    map: &mut [u8; 65600],
+    map: &mut [u32; 65600],
     store: &mut [u16; 65600],
 ) -> Places {
     let from = at.input;
@@ -291,7 +292,7 @@ pub fn cases(
     begun: Input,
     text: &mut [u8; 4096],
     image: &mut [u8; 65600],
-    map: &mut [u8; 65600],
+    map: &mut [u32; 65600],
     store: &mut [u16; 65600],
 ) -> usize {
     let mut places = Places {

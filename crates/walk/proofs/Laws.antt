@@ -14,7 +14,7 @@ use Rattle.mcode.specs.declared.Flow.the-variants.{Fault, Ends, To, Fork}
 use Rattle.mcode.specs.declared.Module.{Module}
 use Rattle.mcode.specs.Word.{pick}
 use Rattle.mcode.specs.Layout.{Sound}
-use Rattle.mcode.specs.Depths.{Analysis, mark}
+use Rattle.mcode.specs.Depths.{unmarked, Analysis, mark}
 use Rattle.mcode.specs.Walk.{waysAt, legible, within, walk}
 use Rattle.mcode.proofs.Reached.{Seen, seen-ways, walk-fits}
 use Rattle.depths.specs.declared.Visit.the-variants.{Tail}
@@ -23,13 +23,13 @@ use Rattle.depths.proofs.Lists.{free-set}
 use Rattle.depths.proofs.Theory.{Real, turn-ends, turn-to, turn-fork-first, turn-fork}
 use Rattle.walk.specs.Set.{Noted}
 
-marked-none : (d : ℕ) → d ≡ 0 → d ≡ 255 → ⊥
+marked-none : (d : ℕ) → d ≡ 0 → d ≡ unmarked → ⊥
 marked-none d x z = omega (arith, x, z)
 
 -- a visit leaves room in the queue, and the map's length
-pub noted-room : (s w : List ℕ) (t q t′ : ℕ) (s′ w′ : List ℕ) → Noted s w t q t′ s′ w′ → t + free 255 s ≤ length w → (t′ + free 255 s′ ≤ length w′) × (length s′ ≡ length s)
+pub noted-room : (s w : List ℕ) (t q t′ : ℕ) (s′ w′ : List ℕ) → Noted s w t q t′ s′ w′ → t + free unmarked s ≤ length w → (t′ + free unmarked s′ ≤ length w′) × (length s′ ≡ length s)
 noted-room s w t q t′ s′ w′ (inl n) l =
-    rw (n .2, n .3, n .4) (simp length-set (omega (arith, l, free-set 255 s q 0 (n .0) (n .1) (marked-none 0 refl))), length-set s q 0)
+    rw (n .2, n .3, n .4) (simp length-set (omega (arith, l, free-set unmarked s q 0 (n .0) (n .1) (marked-none 0 refl))), length-set s q 0)
 noted-room s w t q t′ s′ w′ (inr n) l = rw (n .1, n .2, n .3) (l, refl)
 
 module _ (image : List ℕ) (m : Module) where
@@ -55,35 +55,35 @@ module _ (image : List ℕ) (m : Module) where
       go true = refl
       go false = refl
 
-  real-within : (g : Flow) → Seen g → Real 255 (within (m .length) g)
+  real-within : (g : Flow) → Seen g → Real unmarked (within (m .length) g)
   real-within Fault x = tt
   real-within Ends x = tt
   real-within (To q d) x = go (ltb q (m .length))
     where
-      go : (u : Bool) → Real 255 (pick u (To q d) Ends)
+      go : (u : Bool) → Real unmarked (pick u (To q d) Ends)
       go true = marked-none d x
       go false = tt
   real-within (Fork q d r e) x = go (ltb q (m .length)) (ltb r (m .length))
     where
-      go : (u v : Bool) → Real 255 (pick u (pick v (Fork q d r e) (To q d)) (pick v (To r e) Ends))
+      go : (u v : Bool) → Real unmarked (pick u (pick v (Fork q d r e) (To q d)) (pick v (To r e) Ends))
       go true true = (marked-none d (x .0), marked-none e (x .1))
       go true false = marked-none d (x .0)
       go false true = marked-none e (x .1)
       go false false = tt
 
-  pub real : (p k : ℕ) → Real 255 (W .flow p k)
-  real p k = subst (Real 255) (sym (flow-way p k)) (real-within (way p) (seen-way p))
+  pub real : (p k : ℕ) → Real unmarked (W .flow p k)
+  real p k = subst (Real unmarked) (sym (flow-way p k)) (real-within (way p) (seen-way p))
 
-  pub reals : (k : ℕ) → k < W .entries → W .entryMark k ≡ 255 → ⊥
+  pub reals : (k : ℕ) → k < W .entries → W .entryMark k ≡ unmarked → ⊥
   reals k l = marked-none 0 refl
 
   -- a visit of a position in the code is one for the mark 0
   pub visited : Sound image m → (s w : List ℕ) (h t : ℕ) → Queue W s w h t → (q : ℕ) → q < m .length
-      → (t′ : ℕ) (s′ w′ : List ℕ) → Noted s w t q t′ s′ w′ → Visited 255 s w t q 0 (Tail t′) s′ w′
+      → (t′ : ℕ) (s′ w′ : List ℕ) → Noted s w t q t′ s′ w′ → Visited unmarked s w t q 0 (Tail t′) s′ w′
   visited S s w h t Q q l t′ s′ w′ (inl n) = (n .0, inl (n .1, n .2, n .3, n .4))
   visited S s w h t Q q l t′ s′ w′ (inr n) =
       let i : q < length s = omega (arith, l, Q .sized) in
-      (i, inr (sym (Q .implied q (n .0 i) (replicate (m .length) 0) (walk-fits image m S)) ∙ getD-replicate (m .length) q 0 255 l, n .1, n .2, n .3))
+      (i, inr (sym (Q .implied q (n .0 i) (replicate (m .length) 0) (walk-fits image m S)) ∙ getD-replicate (m .length) q 0 unmarked l, n .1, n .2, n .3))
 
   outside : (s w : List ℕ) (t q : ℕ) → length s ≤ q → (t′ : ℕ) (s′ w′ : List ℕ) → Noted s w t q t′ s′ w′ → (s′ ≡ s) × (w′ ≡ w) × (t′ ≡ t)
   outside s w t q l t′ s′ w′ (inl n) = absurd (let z : ⊥ = omega (arith, l, n .0) in z)

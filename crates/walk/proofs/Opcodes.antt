@@ -19,8 +19,8 @@ use Rattle.mcode.specs.Image.{codeByte}
 use Rattle.mcode.specs.Depths.{carry, jumps, target}
 use Rattle.mcode.specs.Walk.{seen, ways, waysAt, legible, named, staysIn, causeAt}
 use Rattle.mcode.proofs.Tests.{and-both, refuted}
-use Rattle.depths.specs.Cases.{jumping, ending, plain, kindOf}
-use Rattle.depths.proofs.Flows.{of-plain, of-jump, of-last, of-other, of-none}
+use Rattle.depths.specs.Cases.{jumping, ending, saving, plain, kindOf}
+use Rattle.depths.proofs.Flows.{of-plain, of-jump, of-last, of-other, of-saves, of-none, saving-plain}
 use Rattle.walk.proofs.Laws.{way}
 
 -- a jump for the mark 0 has only marks 0
@@ -35,35 +35,39 @@ carry-jumps op t n = go (leb 0o36 op) (or (eqb op 0o31) (or (eqb op 0o33) (eqb o
 
 -- the tests that the kind k of op stands for, and where op leads
 module _ (op k : ℕ) (x : k ≡ kindOf op) where
-  pub unlisted : 4 < k → eqb (getD lengths op 0) 0 ≡ true
+  pub unlisted : 5 < k → eqb (getD lengths op 0) 0 ≡ true
   unfolding kindOf
-  unlisted = of-none k (eqb (getD lengths op 0) 0) (jumping op) (ending op) (plain op) x
+  unlisted = of-none k (eqb (getD lengths op 0) 0) (jumping op) (ending op) (saving op) (plain op) x
 
-  pub listed : k ≤ 4 → eqb (getD lengths op 0) 0 ≡ false
+  pub listed : k ≤ 5 → eqb (getD lengths op 0) 0 ≡ false
   unfolding kindOf
-  listed l = refuted _ (λ t. let e : k ≡ 5 = x ∙ rw t refl in omega (arith, e, l))
+  listed l = refuted _ (λ t. let e : k ≡ 6 = x ∙ rw t refl in omega (arith, e, l))
 
-  onward : k ≤ 4 → (k ≡ 3 → ⊥) → (k ≡ 2 → ⊥) → (jumping op ≡ false) × (ending op ≡ false)
+  onward : k ≤ 5 → (k ≡ 3 → ⊥) → (k ≡ 2 → ⊥) → (jumping op ≡ false) × (ending op ≡ false)
   unfolding kindOf
-  onward l y z = go (decLt 1 k)
+  onward l y z = go (decLt 1 k) (decLt 4 k)
     where
-      go : Dec (1 < k) → (jumping op ≡ false) × (ending op ≡ false)
-      go (yes h) = let (_, j, e, _) = of-other k (eqb (getD lengths op 0) 0) (jumping op) (ending op) (plain op) x (omega arith) l in (j, e)
-      go (no h) = let (_, j, e, _) = of-plain k (eqb (getD lengths op 0) 0) (jumping op) (ending op) (plain op) x (omega arith) in (j, e)
+      go : Dec (1 < k) → Dec (4 < k) → (jumping op ≡ false) × (ending op ≡ false)
+      go (no h) d = let (_, j, e, _, _) = of-plain k (eqb (getD lengths op 0) 0) (jumping op) (ending op) (saving op) (plain op) x (omega arith) in (j, e)
+      go (yes h) (no d) = let (_, j, e, _, _) = of-other k (eqb (getD lengths op 0) 0) (jumping op) (ending op) (saving op) (plain op) x (omega arith) (omega arith) in (j, e)
+      go (yes h) (yes d) =
+          let (_, s) = of-saves k (eqb (getD lengths op 0) 0) (jumping op) (ending op) (saving op) (plain op) x (omega arith) l in
+          let (j, e, _) = saving-plain op s in
+          (j, e)
 
   module _ (t n : ℕ) where
     ways-last : k ≡ 3 → ways op t n ≡ Ends
     unfolding ways kindOf
-    ways-last l = rw (of-last k (eqb (getD lengths op 0) 0) (jumping op) (ending op) (plain op) x (omega arith) (omega arith) .1) refl
+    ways-last l = rw (of-last k (eqb (getD lengths op 0) 0) (jumping op) (ending op) (saving op) (plain op) x (omega arith) (omega arith) .1) refl
 
     ways-jump : k ≡ 2 → ways op t n ≡ jumps op t n 0
     unfolding ways kindOf
     ways-jump l =
-        let j = of-jump k (eqb (getD lengths op 0) 0) (jumping op) (ending op) (plain op) x (omega arith) (omega arith) .1 in
+        let j = of-jump k (eqb (getD lengths op 0) 0) (jumping op) (ending op) (saving op) (plain op) x (omega arith) (omega arith) .1 in
         let z = ltb-true op 0o40 (and-both (leb 0o30 op) (ltb op 0o40) j .1) in
         rw (ne-eqb op 0o304 (λ y. omega (arith, y, z)), ne-eqb op 0o354 (λ y. omega (arith, y, z)), j) (carry-jumps op t n)
 
-    ways-next : k ≤ 4 → (k ≡ 3 → ⊥) → (k ≡ 2 → ⊥) → ways op t n ≡ To n 0
+    ways-next : k ≤ 5 → (k ≡ 3 → ⊥) → (k ≡ 2 → ⊥) → ways op t n ≡ To n 0
     unfolding ways
     ways-next l y z = let (j, h) = onward l y z in rw (h, j) refl
 
@@ -75,7 +79,7 @@ module _ (image : List ℕ) (m : Module) (p k : ℕ) (x : k ≡ kindOf (codeByte
   abbrev n : ℕ
   n = p + getD lengths op 0
 
-  pub way-none : 4 < k → way image m p ≡ Ends
+  pub way-none : 5 < k → way image m p ≡ Ends
   unfolding legible
   way-none l = rw (lt-leb 1 (getD lengths op 0) (let z : getD lengths op 0 ≡ 0 = eqb-true _ _ (unlisted op k x l) in omega arith)) refl
 
@@ -86,7 +90,7 @@ module _ (image : List ℕ) (m : Module) (p k : ℕ) (x : k ≡ kindOf (codeByte
       let b = leb n (m .length) in
       rw (refuted (and a b) (λ z. false≢true (sym (lt-leb n (m .length) l) ∙ and-both a b z .1))) refl
 
-  module _ (some : k ≤ 4) (room : n ≤ m .length) where
+  module _ (some : k ≤ 5) (room : n ≤ m .length) where
     pub way-is : way image m p ≡ waysAt image m p
     unfolding legible
     way-is =
@@ -107,15 +111,15 @@ module _ (image : List ℕ) (m : Module) (p k : ℕ) (x : k ≡ kindOf (codeByte
 
 -- what is wrong with position p, whose opcode is of kind k
 module _ (image : List ℕ) (program : Program) (m : Module) (p k : ℕ) (x : k ≡ kindOf (codeByte image m p)) where
-  pub cause-none : 4 < k → causeAt image program m p ≡ Opcode
+  pub cause-none : 5 < k → causeAt image program m p ≡ Opcode
   unfolding causeAt
   cause-none l = rw (unlisted (codeByte image m p) k x l) refl
 
-  pub cause-cut : k ≤ 4 → m .length < p + getD lengths (codeByte image m p) 0 → causeAt image program m p ≡ Operands
+  pub cause-cut : k ≤ 5 → m .length < p + getD lengths (codeByte image m p) 0 → causeAt image program m p ≡ Operands
   unfolding causeAt
   cause-cut l h = rw (listed (codeByte image m p) k x l, lt-ltb _ _ h) refl
 
-  module _ (some : k ≤ 4) (room : p + getD lengths (codeByte image m p) 0 ≤ m .length) where
+  module _ (some : k ≤ 5) (room : p + getD lengths (codeByte image m p) 0 ≤ m .length) where
     abbrev names : Bool
     names = named program m (codeByte image m p) (codeByte image m (p + 1)) (codeByte image m (p + 2))
 

@@ -5,6 +5,7 @@ use mathlib.Core.Logic.{_⊎_}
 use mathlib.Core.Bool.{true, false}
 use mathlib.Core.List.{List}
 use lib.ListN.{length, getD, set}
+use Rattle.mcode.specs.Depths.{unmarked}
 use Rattle.mcode.specs.Opcode.{lengths}
 use Rattle.mcode.specs.Layout.{Sound}
 use Rattle.mcode.specs.Walk.{wholeAt, Reached, Whole}
@@ -24,8 +25,8 @@ tail t = Tail t
 -- what visiting position q does to the set m and to the queue w that ends at t
 abbrev pub Noted : List ℕ → List ℕ → ℕ → ℕ → ℕ → List ℕ → List ℕ → Type 0
 Noted m w t q t′ m′ w′ =
-    ((q < length m) × (getD m q 255 ≡ 255) × (m′ ≡ set m q 0) × (w′ ≡ set w t q) × (t′ ≡ t + 1))
-    ⊎ ((q < length m → getD m q 255 ≡ 255 → ⊥) × (m′ ≡ m) × (w′ ≡ w) × (t′ ≡ t))
+    ((q < length m) × (getD m q unmarked ≡ unmarked) × (m′ ≡ set m q 0) × (w′ ≡ set w t q) × (t′ ≡ t + 1))
+    ⊎ ((q < length m → getD m q unmarked ≡ unmarked → ⊥) × (m′ ≡ m) × (w′ ≡ w) × (t′ ≡ t))
 
 -- a program of which only the counts of procedures are known
 abbrev pub counted : ℕ → List ℕ → Program

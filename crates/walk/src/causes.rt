@@ -1,6 +1,6 @@
 // What is wrong with an instruction, whatever the depth.
 use crate::ways::ways_at;
-use depths::kinds::NAMES;
+use depths::kinds::SAVES;
 use depths::rules::byte_at;
 use depths::rules::callee_of;
 use depths::rules::kind_of;
@@ -87,7 +87,7 @@ pub fn cause_at(
     ensures { λ r. ⌜ r ≡ causeAt (now (image .entry)) (counted count (now (procs .entry))) m p ⌝ }
 {
     let op = image[m.code + p];
-    if NAMES < kind_of(kinds, op) {
+    if SAVES < kind_of(kinds, op) {
         return Cause::Opcode;
     }
     if (m.length as usize) < p + length_of(sizes, op) {

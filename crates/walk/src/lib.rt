@@ -6,13 +6,14 @@ pub mod ways;
 use crate::causes::is_whole;
 use crate::ways::ways_at;
 use depths::blank;
+use marks::UNMARKED;
 use mcode::Flow;
 use mcode::Module;
 ghost use mathlib.Core.Path.{_≡_};
 ghost use Prim.Native.Nat.{_+_, _≤_, _<_};
 ghost use lib.ListN.{length, replicate};
 ghost use Rattle.mcode.specs.Opcode.{lengths};
-ghost use Rattle.mcode.specs.Depths.{Fewest};
+ghost use Rattle.mcode.specs.Depths.{unmarked, Fewest};
 ghost use Rattle.mcode.specs.Walk.{walk as walked};
 ghost use Rattle.mcode.specs.Layout.{Sound};
 ghost use Rattle.depths.specs.Queue.{free, Queue, Stepped, Started};
@@ -26,13 +27,13 @@ pub enum Scan {
 }
 
 // Visits position q: one in the code that is new is marked and queued. Each is queued once, so the queue never overflows.
-fn reach(map: &mut [u8], work: &mut [u16], t: usize, q: usize) -> usize
-    requires { ⌜ t + free 255 (now map) ≤ length (now work) ⌝ }
+fn reach(map: &mut [u32], work: &mut [u16], t: usize, q: usize) -> usize
+    requires { ⌜ t + free unmarked (now map) ≤ length (now work) ⌝ }
     requires { ⌜ length (now map) ≤ 65536 ⌝ }
     ensures { λ r. ⌜ Noted (now (map .entry)) (now (work .entry)) t q r (now (map .exit)) (now (work .exit)) ⌝ }
 {
     if q < map.len() {
-        if map[q] == 255 {
+        if map[q] == UNMARKED {
             map[q] = 0;
             work[t] = q as u16;
             return t + 1;
@@ -44,7 +45,7 @@ fn reach(map: &mut [u8], work: &mut [u16], t: usize, q: usize) -> usize
 // Takes the position at h from the queue and visits its successors.
 fn step(
     image: &[u8],
-    map: &mut [u8],
+    map: &mut [u32],
     work: &mut [u16],
     h: usize,
     t: usize,
@@ -71,10 +72,10 @@ fn step(
 }
 
 // Visits the entry of each procedure.
-fn enter(image: &[u8], map: &mut [u8], work: &mut [u16], m: Module) -> usize
+fn enter(image: &[u8], map: &mut [u32], work: &mut [u16], m: Module) -> usize
     requires { ⌜ Sound (now image) m ⌝ }
     requires { ⌜ m .length ≤ length (now work) ⌝ }
-    requires { ⌜ now map ≡ replicate (m .length) 255 ⌝ }
+    requires { ⌜ now map ≡ replicate (m .length) unmarked ⌝ }
     ensures { λ r. ⌜ Started (walked (now (image .entry)) m) (tail r) (now (map .exit)) (now (work .exit)) ⌝ }
 {
     let n = depths::rules::proc_count(m);
@@ -91,7 +92,7 @@ fn enter(image: &[u8], map: &mut [u8], work: &mut [u16], m: Module) -> usize
 // Takes positions from the queue until it is empty.
 fn drain(
     image: &[u8],
-    map: &mut [u8],
+    map: &mut [u32],
     work: &mut [u16],
     until: usize,
     m: Module,
@@ -115,7 +116,7 @@ fn drain(
 // matter.
 pub fn walk(
     image: &[u8],
-    map: &mut [u8],
+    map: &mut [u32],
     work: &mut [u16],
     m: Module,
     sizes: &[u8; 256],
@@ -134,7 +135,7 @@ pub fn walk(
 // The lowest position at fault of those that the map marks.
 pub fn lowest(
     image: &[u8],
-    map: &[u8],
+    map: &[u32],
     count: usize,
     procs: &[u16; 32],
     m: Module,
@@ -147,7 +148,7 @@ pub fn lowest(
 {
     let mut p: usize = 0;
     while p < map.len() {
-        if map[p] != 255 {
+        if map[p] != UNMARKED {
             if !is_whole(image, p, count, procs, m, sizes, kinds) {
                 return Scan::Fault(p as u16);
             }

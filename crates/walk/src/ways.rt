@@ -1,7 +1,7 @@
 // Where an instruction leads, whatever the depth.
 use depths::kinds::JUMP;
 use depths::kinds::LAST;
-use depths::kinds::NAMES;
+use depths::kinds::SAVES;
 use depths::rules::jump;
 use depths::rules::kind_of;
 use depths::rules::length_of;
@@ -26,7 +26,7 @@ pub fn ways_at(image: &[u8], p: usize, m: Module, sizes: &[u8; 256], kinds: &[u8
     let op = image[m.code + p];
     let n = p + length_of(sizes, op);
     let kind = kind_of(kinds, op);
-    if NAMES < kind {
+    if SAVES < kind {
         return Flow::Ends;
     }
     if (m.length as usize) < n {

@@ -6,7 +6,9 @@
 
 use super::rng::Rng;
 use crate::assemble::Source;
+use crate::depths::MOST_RESTORED;
 use crate::image::{Procedure, ONLY_PROCEDURE};
+use crate::mark::{Saved, MOST, MOST_SAVED};
 use crate::opcode::{self, *};
 
 /// Words 64 to 79 name processes for TRANSFER: no module lies there.
@@ -100,6 +102,7 @@ fn write_module(
             careful: shape.careful,
             code: Vec::new(),
             depth: procedures[number].parameters,
+            saved: Saved::NONE,
         };
         if !shape.opcodes.is_empty() && (module, number) == (0, 0) {
             writer.each_of(&shape.opcodes);
@@ -140,6 +143,7 @@ struct Writer<'a> {
     careful: bool,
     code: Vec<u8>,
     depth: u8,
+    saved: Saved,
 }
 
 impl Writer<'_> {
@@ -164,8 +168,16 @@ impl Writer<'_> {
         }
     }
 
-    /// "A return must carry what the procedure promised."
+    /// "A return must carry what the procedure promised", and what is saved must
+    /// be restored before it. Where 16 words are saved there is no way back.
     fn give_back(&mut self) {
+        while let Some(front) = self.saved.front() {
+            if front > MOST_RESTORED {
+                self.between(1, 0);
+                return self.emit(&[TRAP]);
+            }
+            self.restore();
+        }
         self.set_depth(self.returned);
         self.emit(&[RTN]);
     }
@@ -181,9 +193,9 @@ impl Writer<'_> {
     }
 
     fn statement(&mut self, fuel: u32) {
-        const CONTROL: [u8; 18] = [
+        const CONTROL: [u8; 20] = [
             JPC, JP, JPFC, JPF, JPBC, JPB, ORJP, ANDJP, CX, CX, CI, CL, CL1, 0o362, 0o363, TRA,
-            TRAP, RTN,
+            TRAP, RTN, STORE, LODFW,
         ];
         let opcode = match self.rng.below(12) {
             0..=3 => self.rng.pick(&CONTROL),
@@ -356,6 +368,9 @@ impl Writer<'_> {
             JPB => self.repeat_while(fuel),
             ORJP | ANDJP => self.short_circuit(opcode, fuel),
             TRAP | RTN => self.leave(opcode),
+            STORE | LODFW if self.saved.depths().len() == MOST_SAVED => self.emit(&[0o336]),
+            STORE if self.rng.once_in(8) => self.leave(opcode),
+            STORE | LODFW => self.call_inside(fuel),
             CX | CI | CL | CL1..=CL15 => self.call(opcode),
             TRA => self.transfer(),
             _ => self.plain(opcode),
@@ -589,17 +604,51 @@ impl Writer<'_> {
         let often = self.rng.once_in(if self.careful { 100 } else { 8 });
         self.literal(u16::from(often));
         self.depth -= 1;
-        let depth = self.depth;
+        let (depth, saved) = (self.depth, self.saved);
         let start = self.code.len();
-        if opcode == TRAP {
+        if opcode == STORE {
+            self.set_depth(MOST);
+            self.store();
+        }
+        if opcode == RTN {
+            self.give_back();
+        } else {
             self.put();
             self.emit(&[TRAP]);
-        } else {
-            self.give_back();
         }
-        self.depth = depth;
+        (self.depth, self.saved) = (depth, saved);
         let block = self.code.split_off(start);
         self.jump_with(JPFC, &block);
+    }
+
+    /// Saves the stack. The list has room.
+    fn store(&mut self) {
+        self.code.push(STORE);
+        self.saved = self.saved.with(self.depth).expect("at most three saved");
+        self.depth = 0;
+    }
+
+    /// Restores the stack below one word. At most 15 words are saved.
+    fn restore(&mut self) {
+        self.set_depth(1);
+        self.code.push(LODFW);
+        self.depth += self.saved.front().unwrap_or_default();
+        self.saved = self.saved.without_front();
+    }
+
+    /// A call inside an expression, or other statements there, or nothing: what
+    /// is on the stack is saved before and restored after it.
+    fn call_inside(&mut self, fuel: u32) {
+        self.between(0, 1);
+        self.store();
+        if !self.rng.once_in(3) {
+            let opcode = self.rng.pick(&[CX, CI, CL, CL1]);
+            self.call(opcode);
+        }
+        for _ in 0..self.rng.below(3).min(fuel as usize) {
+            self.statement(fuel - 1);
+        }
+        self.restore();
     }
 
     /// A call of a later procedure, seldom of any.

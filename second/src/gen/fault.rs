@@ -57,7 +57,9 @@ const NO_PROCEDURE: Cause = Cause::NoSuch(Named::Procedure);
 const NO_TARGET: Cause = Cause::SuccessorOutside(Way::Target);
 const NO_NEXT: Cause = Cause::SuccessorOutside(Way::Next);
 
-pub const FORMS: [Form; 21] = [
+pub const FORMS: [Form; 23] = [
+    (NO_NEXT, STORE),
+    (NO_NEXT, LODFW),
     UNLISTED,
     (Cause::OperandsOutside, ANY),
     (NO_NEXT, ANY),
@@ -257,6 +259,7 @@ impl Yard<'_> {
             }
             NO_PROCEDURE => self.call(opcode),
             NO_TARGET => self.jump_outside(opcode),
+            NO_NEXT if opcode != ANY => self.code.push(opcode),
             NO_NEXT => self.run_off(),
         }
     }

@@ -1,20 +1,26 @@
 //! The seeded generator of cases. Case `index` of a seed is always the same.
 
 mod code;
+mod expression;
 mod fault;
 pub mod rng;
+mod saved;
 mod state;
 
 use crate::api;
 use crate::assemble::{encode, Source};
 use crate::case::{Case, CaseRun};
-use crate::depths::{Mark, MOST, MOST_RESULTS, UNMARKED};
 use crate::image::{Procedure, ONLY_PROCEDURE};
+use crate::lent::FLAWS;
 use crate::machine::Machine;
-use crate::opcode::{self, CL, DADD, DSUB, JP, LED, LGD, LID, PAIRS, RTN, SED, SGD, TRA, TRAP};
+use crate::mark::{Mark, Saved, MOST, MOST_RESULTS, MOST_SAVED, UNMARKED};
+use crate::opcode::{
+    self, CL, DADD, DSUB, JP, LED, LGD, LID, LODFW, PAIRS, RTN, SED, SGD, STORE, TRA, TRAP,
+};
 use code::{program, program_with_wrong_return, some_word, Shape};
 use fault::{add_fault, Kind, FORMS, KINDS};
 use rng::Rng;
+use saved::{add_nested, flawed_entry, other_saved, some_depths, stores};
 use state::{Place, World};
 
 /// How large cases are, and how many runs they have.
@@ -35,7 +41,7 @@ pub struct Scale {
     /// Of the stores and codes that could be too large or nearly so, one in so
     /// many is.
     large_parts: usize,
-    /// Rounds of 32 cases from one of the largest sizes to the next.
+    /// Rounds of cases from one of the largest sizes to the next.
     large_rounds: u64,
     /// One run in so many has inputs of its own.
     own_inputs: usize,
@@ -65,30 +71,33 @@ pub const SMALL: Scale = Scale {
     full_programs: 60,
     program_runs: 3,
     state_opcodes: 6,
-    state_runs: 5,
+    state_runs: 6,
     alterations: 2,
     machine_runs: 4,
     large_parts: 20,
-    large_rounds: 10,
+    large_rounds: 7,
     own_inputs: 8,
 };
+
+/// The cases of a round, each of a kind of its own or one of several.
+pub const ROUND: u64 = 40;
 
 /// One case of a seed.
 pub fn case(scale: &Scale, seed: u64, index: u64) -> Case {
     let rng = &mut Rng::for_case(seed, index);
-    let round = index / 32;
-    let mut case = match index % 32 {
-        0..=5 => program_case(rng, scale),
-        6 => fault_case(rng, scale, round),
+    let round = index / ROUND;
+    let mut case = match index % ROUND {
+        kind @ 0..=1 => fault_case(rng, scale, 2 * round + kind),
+        2..=6 => program_case(rng, scale),
         7 => wrong_return_case(rng, scale),
         8 => shared_code_case(rng, scale),
         9 => {
             let opcode = any_double(rng);
-            state_case(rng, scale, Some(opcode))
+            state_case(rng, scale, opcode)
         }
-        10..=15 => state_case(rng, scale, None),
-        16..=18 => state_case(rng, scale, Some(TRA)),
-        19..=20 => state_case(rng, scale, Some(RTN)),
+        kind @ 10..=15 => states_case(rng, scale, (6 * round + kind) as usize),
+        16..=18 => state_case(rng, scale, TRA),
+        19..=20 => state_case(rng, scale, RTN),
         21..=22 => mutant_case(rng, scale),
         23 => double_depth_case(rng, scale),
         24..=25 => header_case(rng, scale),
@@ -96,9 +105,16 @@ pub fn case(scale: &Scale, seed: u64, index: u64) -> Case {
         27 => broken_map_case(rng, scale),
         28 => lent_marks_case(rng),
         29 => broken_machine_case(rng, scale),
-        31 if round.is_multiple_of(scale.large_rounds) => {
+        30 if round.is_multiple_of(scale.large_rounds) => {
             large_case(rng, round / scale.large_rounds)
         }
+        32..=33 => state_case(rng, scale, STORE),
+        34..=35 => state_case(rng, scale, LODFW),
+        31 => expression::lent_fronts_case(rng),
+        36 => expression::saved_words_case(rng),
+        37 => expression::unfit_case(rng, scale, round as usize),
+        38 => expression::flawed_entries_case(rng, scale, round as usize),
+        39 => expression::unfit_marks_case(rng, round as usize),
         _ => sizes_case(rng, scale),
     };
     keep_inputs(rng, scale, &mut case.runs);
@@ -132,13 +148,26 @@ fn any_shape(rng: &mut Rng, scale: &Scale) -> Shape {
     }
 }
 
-/// Some of the listed opcodes in the main program, or all of them, and enough
-/// procedures to be called.
-fn opcode_shape(rng: &mut Rng, scale: &Scale, count: usize, opcode: Option<u8>) -> Shape {
+/// Some of the listed opcodes in any order, and this one.
+fn opcodes_with(rng: &mut Rng, count: usize, opcode: u8) -> Vec<u8> {
     let mut opcodes: Vec<u8> = opcode::listed().collect();
     rng.shuffle(&mut opcodes);
     opcodes.truncate(count);
-    opcodes.extend(opcode);
+    opcodes.push(opcode);
+    opcodes
+}
+
+/// So many of the listed opcodes, each in turn.
+fn opcodes_in_turn(turn: usize, count: usize) -> Vec<u8> {
+    let mut opcodes: Vec<u8> = opcode::listed().collect();
+    let first = turn * count % opcodes.len();
+    opcodes.rotate_left(first);
+    opcodes.truncate(count);
+    opcodes
+}
+
+/// These opcodes in the main program, and enough procedures to be called.
+fn opcode_shape(rng: &mut Rng, scale: &Scale, opcodes: Vec<u8>, careful: bool) -> Shape {
     let called = |opcode: &u8| usize::from(opcode.saturating_sub(CL));
     let highest = opcodes.iter().map(called).max().unwrap_or_default();
     Shape {
@@ -147,8 +176,7 @@ fn opcode_shape(rng: &mut Rng, scale: &Scale, count: usize, opcode: Option<u8>) 
         statements: scale.statements[0],
         data: 20,
         opcodes,
-        // Pairs are to reach the store's end.
-        careful: rng.once_in(2) && !opcode.is_some_and(|opcode| PAIRS.contains(&opcode)),
+        careful,
         large_stores: scale.large_parts,
     }
 }
@@ -168,7 +196,7 @@ fn case_of(rng: &mut Rng, image: Vec<u8>, store_length: usize) -> Case {
     let past = rng.pick(&[0, 0, 1, 7]);
     Case {
         map_length: image.len() + past,
-        map_fill: rng.byte(),
+        map_fill: rng.bits() as u32,
         store_length,
         store_fill: rng.word(),
         outputs: words(rng, 16),
@@ -203,7 +231,8 @@ fn plain_runs(rng: &mut Rng, scale: &Scale) -> Vec<CaseRun> {
 /// An accepted program from its start on, with processes to transfer to.
 fn program_case(rng: &mut Rng, scale: &Scale) -> Case {
     let shape = if rng.once_in(scale.full_programs) {
-        opcode_shape(rng, scale, 256, None)
+        let careful = rng.once_in(2);
+        opcode_shape(rng, scale, opcode::listed().collect(), careful)
     } else {
         any_shape(rng, scale)
     };
@@ -238,7 +267,7 @@ fn shared_code_case(rng: &mut Rng, scale: &Scale) -> Case {
 /// One more procedure, which begins at the place or jumps to it. It mostly has
 /// other results: then A.2 alone refuses the code.
 fn share(rng: &mut Rng, module: &mut Source, place: Place) {
-    let Mark { depth, results } = place.mark;
+    let Mark { depth, results, .. } = place.mark;
     let mut procedure = Procedure {
         entry: place.position,
         parameters: depth,
@@ -259,9 +288,13 @@ fn share(rng: &mut Rng, module: &mut Source, place: Place) {
     add_procedure(module, procedure);
 }
 
-/// One more procedure: transfers with 2 words on the stack and with 16.
+/// One more procedure: transfers with 2 words on the stack and with 16, often
+/// where others are saved.
 fn add_transfers(rng: &mut Rng, module: &mut Source) {
     let entry = module.code.len() as u16;
+    let count = rng.below(3);
+    let depths = some_depths(rng, count);
+    module.code.extend(stores(rng, &depths));
     for depth in [2, MOST] {
         module.code.extend(literals(rng, depth.into()));
         module.code.extend([TRA, rng.below(3) as u8]);
@@ -306,26 +339,50 @@ fn fault_case(rng: &mut Rng, scale: &Scale, round: u64) -> Case {
     case
 }
 
-/// Single steps, or a few, from machines at any marked position.
-fn state_case(rng: &mut Rng, scale: &Scale, opcode: Option<u8>) -> Case {
-    let shape = opcode_shape(rng, scale, scale.state_opcodes, opcode);
-    let mut modules = program(rng, &shape);
-    if opcode == Some(TRA) {
-        add_transfers(rng, &mut modules[0]);
-    }
-    let mut world = World::of(rng, &shape, &modules);
-    if let Some(opcode) = opcode {
-        world.end_at_pair(rng, opcode);
-    }
+/// Single steps, or a few, from machines at marked positions of several opcodes
+/// in turn.
+fn states_case(rng: &mut Rng, scale: &Scale, turn: usize) -> Case {
+    let opcodes = opcodes_in_turn(turn, scale.state_opcodes);
+    let careful = rng.once_in(2);
+    let shape = opcode_shape(rng, scale, opcodes, careful);
+    let world = World::new(rng, &shape);
     let mut case = case_of(rng, world.image.clone(), world.words);
-    for _ in 0..scale.state_runs {
-        let budget = rng.pick(&[1, 1, 1, 2, 5, 30]);
-        let mut run = plain_run(rng, budget);
-        let opcode = opcode.unwrap_or_else(|| rng.pick(&shape.opcodes));
-        world.set_state(rng, Some(opcode), &mut run);
-        case.runs.push(run);
+    for i in 0..scale.state_runs {
+        let opcode = shape.opcodes[(turn * scale.state_runs + i) % shape.opcodes.len()];
+        add_state(rng, &world, opcode, &mut case);
     }
     case
+}
+
+/// The same of one opcode.
+fn state_case(rng: &mut Rng, scale: &Scale, opcode: u8) -> Case {
+    let opcodes = opcodes_with(rng, scale.state_opcodes, opcode);
+    // Pairs are to reach the store's end.
+    let careful = rng.once_in(2) && !PAIRS.contains(&opcode);
+    let shape = opcode_shape(rng, scale, opcodes, careful);
+    let mut modules = program(rng, &shape);
+    if opcode == TRA {
+        add_transfers(rng, &mut modules[0]);
+    }
+    if matches!(opcode, STORE | LODFW | TRA | RTN) {
+        let count = rng.within(1, MOST_SAVED);
+        add_nested(rng, &mut modules, count);
+    }
+    let mut world = World::of(rng, &shape, &modules);
+    world.end_at_pair(rng, opcode);
+    let mut case = case_of(rng, world.image.clone(), world.words);
+    for _ in 0..scale.state_runs {
+        add_state(rng, &world, opcode, &mut case);
+    }
+    case
+}
+
+/// A run from a machine at an opcode.
+fn add_state(rng: &mut Rng, world: &World, opcode: u8, case: &mut Case) {
+    let budget = rng.pick(&[1, 1, 1, 2, 5, 30]);
+    let mut run = plain_run(rng, budget);
+    world.set_state(rng, Some(opcode), &mut run);
+    case.runs.push(run);
 }
 
 /// An accepted image with a few bytes changed, cut off or appended.
@@ -449,8 +506,8 @@ fn lent_marks_case(rng: &mut Rng) -> Case {
     let reached = rng.once_in(4);
     let results = match rng.below(4) {
         _ if reached => 0,
-        // Bytes 85 to 254, which never fit, though they agree with one another.
-        0 => rng.within(5, 14) as u8,
+        // Entries that never fit, though they agree with one another.
+        0 => rng.within(5, 7) as u8,
         _ => rng.below(5) as u8,
     };
     let code = if rng.once_in(2) {
@@ -479,23 +536,23 @@ fn lent_marks_case(rng: &mut Rng) -> Case {
 
 /// The patches that mark a code which begins at this image byte, one in three
 /// times with an altered one.
-fn lent_marks(rng: &mut Rng, code: &[u8], results: u8, begin: u16) -> Vec<(u16, u8)> {
+fn lent_marks(rng: &mut Rng, code: &[u8], results: u8, begin: u16) -> Vec<(u16, u32)> {
     let marks = marks_in_a_row(code, results);
-    let mut patches: Vec<(u16, u8)> = marks
+    let mut patches: Vec<(u16, u32)> = marks
         .iter()
         .map(|&(position, mark)| (begin + position as u16, mark.encode()))
         .collect();
     if rng.once_in(3) {
         let altered = rng.below(marks.len());
-        patches[altered].1 = altered_byte(rng, marks[altered].1);
+        patches[altered].1 = altered_entry(rng, marks[altered].1);
     }
     patches
 }
 
-/// A byte that is not the mark's: another depth, another result count, or none
-/// of a map that fits.
-fn altered_byte(rng: &mut Rng, mark: Mark) -> u8 {
-    let altered = match rng.below(3) {
+/// An entry that is not the mark's: another depth, another result count, other
+/// saved depths, or no mark at all.
+fn altered_entry(rng: &mut Rng, mark: Mark) -> u32 {
+    let altered = match rng.below(4) {
         0 => Mark {
             depth: (mark.depth + rng.pick(&[1, MOST])) % (MOST + 1),
             ..mark
@@ -504,22 +561,39 @@ fn altered_byte(rng: &mut Rng, mark: Mark) -> u8 {
             results: other_results(rng, mark.results),
             ..mark
         },
-        _ => return rng.within(85, 254) as u8,
+        2 => other_saved(rng, mark),
+        _ => {
+            let flaw = rng.below(FLAWS.len());
+            return flawed_entry(rng, mark, flaw);
+        }
     };
     altered.encode()
 }
 
+/// The positions of a code, one behind the other.
+fn positions_in_a_row(code: &[u8]) -> Vec<usize> {
+    let next = |&position: &usize| {
+        let length = opcode::row(code[position]).length;
+        Some(position + usize::from(length)).filter(|&next| next < code.len())
+    };
+    std::iter::successors(Some(0), next).collect()
+}
+
 /// The positions of a code without jumps, with the depths of their words.
 fn marks_in_a_row(code: &[u8], results: u8) -> Vec<(usize, Mark)> {
-    let mut marks = Vec::new();
-    let (mut position, mut depth) = (0, 0);
-    while position < code.len() {
-        marks.push((position, Mark { depth, results }));
+    let mut depth = 0;
+    let mark = |position: usize| {
+        let saved = Saved::NONE;
+        let mark = Mark {
+            depth,
+            results,
+            saved,
+        };
         let row = opcode::row(code[position]);
-        position += usize::from(row.length);
         depth = (depth + row.left).saturating_sub(row.taken).min(MOST);
-    }
-    marks
+        (position, mark)
+    };
+    positions_in_a_row(code).into_iter().map(mark).collect()
 }
 
 /// Literals, and an instruction of double words that is narrow in some way, for
@@ -579,8 +653,8 @@ fn broken_map_case(rng: &mut Rng, scale: &Scale) -> Case {
     let mut case = case_of(rng, world.image.clone(), world.words);
     for _ in 0..scale.alterations {
         let mut run = plain_run(rng, 5);
-        let (offset, byte) = alteration(rng, &world);
-        run.map_patches.push((offset as u16, byte));
+        let (offset, entry) = alteration(rng, &world);
+        run.map_patches.push((offset as u16, entry));
         case.runs.push(run);
         let mut good = plain_run(rng, 3);
         good.map_patches.push((offset as u16, world.map[offset]));
@@ -589,25 +663,29 @@ fn broken_map_case(rng: &mut Rng, scale: &Scale) -> Case {
     case
 }
 
-/// An offset in a program's map, and another byte for it.
-fn alteration(rng: &mut Rng, world: &World) -> (usize, u8) {
+/// An offset in a program's map, and another entry for it.
+fn alteration(rng: &mut Rng, world: &World) -> (usize, u32) {
     let offset = rng.below(world.image.len());
     match rng.below(6) {
-        0 => (offset, rng.byte()),
+        0 => (offset, rng.bits() as u32),
         1 => (offset, UNMARKED),
-        2 => (offset, rng.pick(&[0, 1, 16, 17, 84, 85, 254])),
+        2 => (
+            offset,
+            rng.pick(&[0, 1, 16, 17, 0x100, 0x7FFF_FFFF, 0xFFFF_FFFE]),
+        ),
         // One that may fit where it was unmarked, before the next mark.
         3 => {
             let next = world.map[offset..].iter().copied().find_map(Mark::decode);
             let mark = Mark {
                 depth: rng.below(4) as u8,
                 results: next.map_or(0, |mark| mark.results),
+                saved: Saved::NONE,
             };
             (offset, mark.encode())
         }
         _ => {
             let (offset, mark) = world.any_mark(rng);
-            (offset, altered_byte(rng, mark))
+            (offset, altered_entry(rng, mark))
         }
     }
 }

@@ -6,9 +6,9 @@ use super::rng::Rng;
 use crate::api;
 use crate::assemble::{encode, Source};
 use crate::case::CaseRun;
-use crate::depths::{Mark, MOST};
 use crate::image::{parse, Program};
 use crate::machine::Machine;
+use crate::mark::{Mark, Saved, MOST};
 use crate::opcode::{self, *};
 use crate::pair::first_address;
 use crate::transfers::{record, saved_stack};
@@ -17,7 +17,7 @@ use std::ops::Range;
 /// An accepted program and the length of its store.
 pub struct World {
     pub image: Vec<u8>,
-    pub map: Vec<u8>,
+    pub map: Vec<u32>,
     pub words: usize,
     program: Program,
     places: Vec<Place>,
@@ -113,7 +113,18 @@ impl World {
 
     /// The offset of a marked position in the map, and its mark.
     pub fn any_mark(&self, rng: &mut Rng) -> (usize, Mark) {
-        let place = self.any_place(rng);
+        self.mark_at(self.any_place(rng))
+    }
+
+    /// The same of a position with as many saved depths as these, if there is
+    /// one.
+    pub fn mark_for(&self, rng: &mut Rng, saved: Saved) -> (usize, Mark) {
+        let count = saved.depths().len();
+        let place = self.place_where(rng, |place| place.mark.saved.depths().len() == count);
+        self.mark_at(place.unwrap_or_else(|| self.any_place(rng)))
+    }
+
+    fn mark_at(&self, place: Place) -> (usize, Mark) {
         let module = &self.program.modules[usize::from(place.module)];
         (module.code_start + usize::from(place.position), place.mark)
     }
@@ -142,6 +153,14 @@ impl World {
         }
     }
 
+    /// The same for an operand: more often none.
+    fn operand_address(&self, rng: &mut Rng) -> u16 {
+        match rng.below(3) {
+            0 => (self.words + rng.below(3)) as u16,
+            _ => self.address(rng),
+        }
+    }
+
     /// Sets a run's machine at a marked position, of this opcode or of any
     /// listed one, and store words to go with it.
     pub fn set_state(&self, rng: &mut Rng, opcode: Option<u8>, run: &mut CaseRun) {
@@ -166,6 +185,8 @@ impl World {
         match place.opcode {
             opcode::TRA => self.set_transfer(rng, &mut machine, run),
             opcode::RTN => self.set_return(rng, &mut machine, run),
+            opcode::STORE => set_limit(rng, &mut machine),
+            opcode::LODFW => set_saved(rng, place.mark.saved, &mut machine, run),
             opcode if PAIRS.contains(&opcode) => self.set_pair(rng, opcode, &mut machine, run),
             opcode => self.set_operands(rng, opcode, &mut machine),
         }
@@ -187,7 +208,7 @@ impl World {
             0 => rng.within(0, highest),
             _ => highest,
         };
-        let s = match rng.below(3) {
+        let s = match rng.below(2) {
             0 => h - rng.below(6).min(h),
             _ => rng.within(0, h),
         };
@@ -198,8 +219,8 @@ impl World {
         };
         let l = match rng.below(8) {
             0 => self.address(rng),
-            1 => (self.words + rng.below(30)) as u16,
-            2 => h as u16,
+            1 | 2 => (self.words + rng.below(30)) as u16,
+            3 => h as u16,
             _ => rng.within(0, h) as u16,
         };
         let mut machine = Machine {
@@ -264,23 +285,23 @@ impl World {
             return;
         }
         match opcode {
-            0o140..=0o157 | 0o200 => set(1, self.address(rng)),
-            0o160..=0o177 | 0o220 => set(2, self.address(rng)),
+            0o140..=0o157 | 0o200 => set(1, self.operand_address(rng)),
+            0o160..=0o177 | 0o220 => set(2, self.operand_address(rng)),
             0o205 | 0o206 => {
                 let index = some_word(rng);
                 let words = if opcode == 0o205 { index / 2 } else { index };
                 set(1, index);
-                set(2, self.address(rng).wrapping_sub(words));
+                set(2, self.operand_address(rng).wrapping_sub(words));
             }
             0o225 | 0o226 => {
                 let index = some_word(rng);
                 let words = if opcode == 0o225 { index / 2 } else { index };
                 set(2, index);
-                set(3, self.address(rng).wrapping_sub(words));
+                set(3, self.operand_address(rng).wrapping_sub(words));
             }
             0o240 => {
                 set(1, rng.below(17) as u16);
-                set(2, self.address(rng));
+                set(2, self.operand_address(rng));
             }
             0o241 => set(2, rng.below(17) as u16),
             0o245 | 0o305 => {
@@ -295,15 +316,23 @@ impl World {
                 set(1, high);
                 set(2, high.wrapping_add(rng.below(5) as u16).wrapping_sub(3));
             }
-            0o273 | 0o274 => set(1, rng.below(5) as u16),
+            0o273 | 0o274 => set(1, rng.below(3) as u16),
             0o330..=0o333 => {
                 let limits = [0x8000, 0x7FFF, 0xFFFF, 1, 0, 2, 0x8001, 180, 0xFF00];
-                set(1, rng.pick(&limits));
-                set(2, rng.pick(&limits));
-                if rng.once_in(4) {
-                    set(1, 0xFFFF);
-                    set(2, 0x8000);
-                }
+                let any = (rng.pick(&limits), rng.pick(&limits));
+                let (c, a) = rng.pick(&[
+                    any,
+                    any,
+                    (any.0, 0),
+                    (any.0, 0),
+                    (0x8000, 0xFFFF),
+                    (0x8000, 0xFFFF),
+                    (0x8000, 1),
+                    (0x7FFF, 0x7FFF),
+                    (0x7FFF, 0xFFFF),
+                ]);
+                set(1, a);
+                set(2, c);
             }
             0o275..=0o277 => set(1, rng.below(20) as u16),
             0o310..=0o315 | 0o252..=0o255 => {
@@ -311,7 +340,7 @@ impl World {
                 set(1, word);
                 set(2, word.wrapping_add(rng.pick(&[0, 1, 65_535, 0x8000])));
             }
-            0o316 | 0o317 => set(1, rng.pick(&[0x8000, 0x7FFF, 0xFFFF, 0x8001, 5])),
+            0o316 | 0o317 => set(1, rng.pick(&[0x8000, 0x8000, 0x7FFF, 0xFFFF, 0x8001, 5])),
             DADD | DSUB => {
                 let lower = some_double(rng);
                 let any = some_double(rng);
@@ -412,12 +441,16 @@ impl World {
             .extend(patches.iter().filter(|p| inside(p)));
     }
 
-    /// A place to go on at, often one without words or with the most.
+    /// A place to go on at, often one without words, with the most, or where
+    /// others are saved.
     fn place_to_resume(&self, rng: &mut Rng) -> Place {
-        let depth = rng.pick(&[Some(0), Some(MOST), None, None]);
-        depth
-            .and_then(|depth| self.place_where(rng, |place| place.mark.depth == depth))
-            .unwrap_or_else(|| self.any_place(rng))
+        let place = match rng.below(6) {
+            0 | 1 => self.place_where(rng, |place| place.mark.depth == 0),
+            2 | 3 => self.place_where(rng, |place| place.mark.depth == MOST),
+            4 => self.place_where(rng, |place| place.mark.saved != Saved::NONE),
+            _ => None,
+        };
+        place.unwrap_or_else(|| self.any_place(rng))
     }
 
     /// The store words of a good process: its record of six words, then its
@@ -504,12 +537,43 @@ impl World {
     }
 }
 
+/// S often just below H, for a STORE.
+fn set_limit(rng: &mut Rng, machine: &mut Machine) {
+    let words = u16::from(machine.depth) + 1;
+    let below = words + rng.pick(&[0, 0, 1]) - rng.pick(&[0, 0, 1]);
+    if rng.once_in(2) {
+        machine.s = machine.h.saturating_sub(below);
+    }
+}
+
+/// Saved words for a LODFW. Seldom there is another count, or S is too low, or
+/// just high enough.
+pub fn set_saved(rng: &mut Rng, saved: Saved, machine: &mut Machine, run: &mut CaseRun) {
+    let front = u16::from(saved.front().unwrap_or_default());
+    let s = match rng.below(8) {
+        0 => rng.within(0, front.into()) as u16,
+        1 => front + 1,
+        _ if machine.s <= front => rng.within(0, machine.h.into()) as u16,
+        _ => machine.s,
+    };
+    machine.s = s.min(machine.h);
+    let Some(count) = machine.s.checked_sub(1) else {
+        return;
+    };
+    let other = rng.pick(&[front + 1, front.wrapping_sub(1), front | 0x100, 16, 17, 0]);
+    let word = if rng.once_in(6) { other } else { front };
+    let lowest = count.saturating_sub(front);
+    let words = (lowest..count).map(|address| (address, some_word(rng)));
+    run.store_patches.extend(words);
+    run.store_patches.push((count, word));
+}
+
 /// The first of so many words that lie over a range, or just beside it.
 fn near(rng: &mut Rng, range: &Range<usize>, length: usize) -> usize {
     rng.within(range.start.saturating_sub(length), range.end)
 }
 
-fn places(program: &Program, image: &[u8], map: &[u8]) -> Vec<Place> {
+fn places(program: &Program, image: &[u8], map: &[u32]) -> Vec<Place> {
     let mut places = Vec::new();
     for (number, module) in program.modules.iter().enumerate() {
         for position in 0..module.code_length {

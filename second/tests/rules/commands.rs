@@ -49,6 +49,7 @@ fn reading() {
 }
 
 /// The 65,536th byte is seen: with it the image is too long, whatever it says.
+/// Without it the image is longer than the desk's map.
 #[test]
 fn reading_sees_the_last_byte() {
     let image = |length: u16| {
@@ -63,7 +64,7 @@ fn reading_sees_the_last_byte() {
     let longest = image(32_761);
     assert_eq!(longest.len(), 65_535);
     let output = second(&["reading"], &longest);
-    assert!(text(&output.stdout).starts_with("stop 30 code 0 steps 1000 module 0 pc 1000 "));
+    assert_eq!(text(&output.stdout), "refused 7\n");
     assert_eq!(
         text(&second(&["reading"], &image(32_762)).stdout),
         "refused 1\n"
@@ -84,14 +85,21 @@ fn map_of(name: &str, image: &[u8]) -> String {
 fn map() {
     assert_eq!(
         map_of("mapped", &EXAMPLE),
-        "load 0\nFF FF FF FF 00 01 02 00\n"
+        "load 0\nffffffff ffffffff ffffffff ffffffff 00000000 00000001 00000002 00000000\n"
     );
     assert_eq!(map_of("unfit", &[1, 0, 0, 1, 0xC4]), "load 8\n");
     assert_eq!(map_of("short", &[1, 0, 0, 1]), "load 3\n");
-    // LI1 and RTN in a procedure with one result: depth + 17 × results.
+    // Lines of eight entries. LI1 and RTN in a procedure with one result.
+    let header = ["ffffffff"; 8].join(" ");
     assert_eq!(
         map_of("result", &[1, 2, 1, 0, 2, 0, 0, 0, 1, 0x01, 0xEC]),
-        "load 0\nFF FF FF FF FF FF FF FF FF 11 12\n"
+        format!("load 0\n{header}\nffffffff 00000020 00000021\n")
+    );
+    // LI1, LI1, STORE, LI1, LODFW, TRAP: 2 saved, then 3 words.
+    assert_eq!(
+        map_of("saved", &[1, 0, 0, 6, 0x01, 0x01, 0xB2, 0x01, 0xB0, 0xC4]),
+        "load 0\nffffffff ffffffff ffffffff ffffffff 00000000 00000001 00000002 00001100\n\
+         00001101 00000003\n"
     );
 }
 

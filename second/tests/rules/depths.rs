@@ -1,24 +1,14 @@
 //! The depth rules: hand cases, and the fewest assignment against all others.
 
-use crate::oracle::first_fault;
-use crate::rig::{Rig, FOR_EVER, WORDS};
+use crate::oracle::{fewest, first_fault};
+use crate::rig::{entry_of, procedure, run_number, Rig, FF, FOR_EVER, WORDS};
 use second::assemble::{encode, Source};
 use second::depths::fits;
 use second::image::{parse, Procedure};
 use second::{load, run};
 
-const FF: u8 = 0xFF;
-
-fn procedure(entry: u16, parameters: u8, results: u8) -> Procedure {
-    Procedure {
-        entry,
-        parameters,
-        results,
-    }
-}
-
 /// Load's marks, or its refusal with module and position.
-type Marks = Result<Vec<u8>, (u8, u8, u16)>;
+type Marks = Result<Vec<u32>, (u8, u8, u16)>;
 
 /// "8 now means that the code is whole and no depths fit."
 const UNFIT: Marks = Err((8, 0, 0));
@@ -136,9 +126,9 @@ fn double_words_are_there_and_find_room() {
             let code = then_for_ever(&[&vec![0o001; depth], instruction].concat());
             let fits = depth >= taken && depth - taken + left <= 16;
             let expected = fits.then(|| {
-                let mut marks: Vec<u8> = (0..=depth as u8).collect();
+                let mut marks: Vec<u32> = (0..=depth as u32).collect();
                 marks.extend(vec![FF; instruction.len() - 1]);
-                marks.extend([(depth + left - taken) as u8, FF]);
+                marks.extend([(depth + left - taken) as u32, FF]);
                 marks
             });
             let expected = expected.map_or(UNFIT, Ok);
@@ -186,7 +176,7 @@ fn modules_of_pairs_exist() {
         // Where nothing reaches it, any module may stand; run tests a mark.
         let unreached = [&[0o354], &code(0, opcode, 1)[..]].concat();
         assert_eq!(marks(&unreached), Ok(vec![0, FF, FF, FF, FF, FF]));
-        let depth = words as u8;
+        let depth = words as u32;
         let left = 2 - depth;
         assert_eq!(run_number(&unreached, &[0, depth, FF, FF, left, FF]), 12);
         let good = [&[0o354], &code(0, opcode, 0)[..]].concat();
@@ -307,18 +297,18 @@ fn a_call_has_just_the_parameters_and_leaves_the_results() {
     };
     let calls = |code: &[u8]| module_marks(&[module(code)]);
     assert_eq!(calls(&[0o361, 0o304]), UNFIT);
-    assert_eq!(calls(&[0o001, 0o361, 0o304]), Ok(vec![0, 1, 3, 52]));
+    assert_eq!(calls(&[0o001, 0o361, 0o304]), Ok(vec![0, 1, 3, 97]));
     assert_eq!(calls(&[0o001, 0o001, 0o361, 0o304]), UNFIT);
-    assert_eq!(calls(&[0o001, 0o360, 1, 0o304]), Ok(vec![0, 1, FF, 3, 52]));
+    assert_eq!(calls(&[0o001, 0o360, 1, 0o304]), Ok(vec![0, 1, FF, 3, 97]));
     // CI's link is taken first.
     assert_eq!(calls(&[0o001, 0o356, 1, 0o304]), UNFIT);
     assert_eq!(
         calls(&[0o001, 0o001, 0o356, 1, 0o304]),
-        Ok(vec![0, 1, 2, FF, 3, 52])
+        Ok(vec![0, 1, 2, FF, 3, 97])
     );
     assert_eq!(
         calls(&[0o001, 0o355, 0, 1, 0o304]),
-        Ok(vec![0, 1, FF, FF, 3, 52])
+        Ok(vec![0, 1, FF, FF, 3, 97])
     );
     assert_eq!(calls(&[0o355, 0, 1, 0o304]), UNFIT);
     // A call may not come last.
@@ -375,13 +365,6 @@ fn the_largest_code_is_marked_to_its_end() {
     let marks = marks(&code).unwrap();
     assert_eq!(marks.iter().filter(|&&mark| mark != FF).count(), 2);
     assert_eq!(marks[32_764], 0);
-}
-
-/// Run's number for a map of a plain module's code; 30 where it fits.
-fn run_number(code: &[u8], part: &[u8]) -> u8 {
-    let mut rig = Rig::plain(code);
-    rig.map[4..].copy_from_slice(part);
-    rig.run(0).number
 }
 
 #[test]
@@ -498,8 +481,8 @@ fn small_module(code: &[u8], random: &mut impl FnMut(u64) -> u64) -> Source {
 
 /// "every other fitting assignment marks these positions too, with the same
 /// depths", and with the same result counts: tries all assignments of these map
-/// bytes to a module's code. Answers whether load accepts it, and how many fit.
-fn try_every_assignment(module: &Source, values: &[u8]) -> (bool, usize) {
+/// entries to a module's code. Answers whether load accepts it, and how many fit.
+fn try_every_assignment(module: &Source, values: &[u32]) -> (bool, usize) {
     let image = encode(std::slice::from_ref(module));
     let program = parse(&image).unwrap();
     let fewest = module_marks(std::slice::from_ref(module)).ok();
@@ -533,7 +516,7 @@ fn try_every_assignment(module: &Source, values: &[u8]) -> (bool, usize) {
 
 /// Tries every assignment of each module. The choice of modules is a good one:
 /// enough of them fit and do not, with this many fitting assignments or more.
-fn try_all(modules: impl Iterator<Item = Source>, values: &[u8], assignments: usize) {
+fn try_all(modules: impl Iterator<Item = Source>, values: &[u32], assignments: usize) {
     let (mut fitting_codes, mut unfit_codes, mut all) = (0, 0, 0);
     for module in modules {
         let (fitting, found) = try_every_assignment(&module, values);
@@ -551,7 +534,7 @@ fn try_all(modules: impl Iterator<Item = Source>, values: &[u8], assignments: us
 fn the_fewest_is_in_every_other() {
     let mut random = numbers(12_345);
     // Five bytes put at most five words.
-    let values: Vec<u8> = (0..=6).chain([FF]).collect();
+    let values: Vec<u32> = (0..=6).chain([FF]).collect();
     let modules = (0..1000).map(|_| Source::plain(&small_code(&mut random)));
     try_all(modules, &values, 500);
 }
@@ -561,8 +544,8 @@ fn the_fewest_is_in_every_other() {
 fn the_fewest_is_in_every_other_with_results() {
     let mut random = numbers(54_321);
     // Two parameters, and at most one word for each of three bytes.
-    let marks = (0..=2).flat_map(|results| (0..=5).map(move |depth| depth + 17 * results));
-    let values: Vec<u8> = marks.chain([FF]).collect();
+    let marks = (0..=2).flat_map(|results| (0..=5).map(move |depth| entry_of(depth, results, &[])));
+    let values: Vec<u32> = marks.chain([FF]).collect();
     let modules = (0..3000).map(|_| {
         let mut code = small_code(&mut random);
         code.truncate(3);
@@ -571,72 +554,13 @@ fn the_fewest_is_in_every_other_with_results() {
     try_all(modules, &values, 1000);
 }
 
-/// The rules once more, naively and for these opcodes alone: marks are added
-/// one sweep after another until nothing changes.
-fn naive(code: &[u8], procedures: &[Procedure]) -> Option<Vec<u8>> {
-    let mut marks: Vec<Option<(i32, i32)>> = vec![None; code.len()];
-    for procedure in procedures {
-        let mark = (procedure.parameters.into(), procedure.results.into());
-        let entry = &mut marks[usize::from(procedure.entry)];
-        if entry.is_some_and(|other| other != mark) {
-            return None;
-        }
-        *entry = Some(mark);
-    }
-    loop {
-        let before = marks.clone();
-        for p in 0..code.len() {
-            let Some((depth, results)) = marks[p] else {
-                continue;
-            };
-            for (target, depth) in naive_successors(code, p, depth, results)? {
-                if !(0..code.len() as i32).contains(&target) || !(0..=16).contains(&depth) {
-                    return None;
-                }
-                let mark = marks[target as usize].get_or_insert((depth, results));
-                if *mark != (depth, results) {
-                    return None;
-                }
-            }
-        }
-        if marks == before {
-            let byte = |(depth, results): (i32, i32)| (depth + 17 * results) as u8;
-            return Some(marks.iter().map(|mark| mark.map_or(FF, byte)).collect());
-        }
-    }
-}
-
 /// What load must answer: 13 before 8.
 fn naive_answer(module: &Source) -> Marks {
     let image = encode(std::slice::from_ref(module));
     match first_fault(&parse(&image).unwrap(), &image) {
         Some((module, position)) => Err((13, module, position)),
-        None => naive(&module.code, &module.procedures).map_or(UNFIT, Ok),
+        None => fewest(&module.code, &module.procedures).map_or(UNFIT, Ok),
     }
-}
-
-/// The successors of a position, with their depths.
-fn naive_successors(code: &[u8], p: usize, d: i32, results: i32) -> Option<Vec<(i32, i32)>> {
-    let b = code.get(p + 1).map(|&b| i32::from(b));
-    let at = p as i32 + 1;
-    Some(match code[p] {
-        0o000..=0o017 => vec![(at, d + 1)],
-        0o032 => vec![(at + b?, d - 1), (at + 1, d - 1)],
-        0o033 => vec![(at + b?, d)],
-        0o034 => vec![(at - b?, d - 1), (at + 1, d - 1)],
-        0o035 => vec![(at - b?, d)],
-        0o036 | 0o037 => vec![(at + b?, d), (at + 1, d - 1)],
-        0o270 if d >= 2 => vec![(at, d - 1)],
-        0o265 if d >= 1 => vec![(at, d + 1)],
-        0o023 if p + 5 <= code.len() => vec![(at + 4, d + 2)],
-        0o202 if d >= 1 => vec![(at, d + 1)],
-        0o222 if d >= 3 => vec![(at, d - 3)],
-        0o210 if d >= 4 => vec![(at, d - 2)],
-        0o336 => vec![(at, d)],
-        0o304 if d >= 1 => vec![],
-        0o354 if d == results => vec![],
-        _ => return None,
-    })
 }
 
 #[test]
@@ -674,7 +598,7 @@ fn the_worklist_agrees_on_double_words() {
         let expected = naive_answer(&module);
         assert_eq!(module_marks(&[module]), expected, "{code:?}");
         if let Ok(marks) = expected {
-            let lid = |(&byte, &mark): (&u8, &u8)| byte == 0o023 && mark != FF;
+            let lid = |(&byte, &mark): (&u8, &u32)| byte == 0o023 && mark != FF;
             accepted += 1;
             with_lid += usize::from(code.iter().zip(&marks).any(lid));
         }
@@ -683,6 +607,69 @@ fn the_worklist_agrees_on_double_words() {
         accepted > 5_000 && with_lid > 1_000,
         "{accepted} {with_lid}"
     );
+}
+
+/// Pieces of code that save and restore, in any order; mostly there is a word for
+/// the TRAP at the end.
+fn saving_code(most: u64, random: &mut impl FnMut(u64) -> u64) -> Vec<u8> {
+    const PIECES: [&[u8]; 12] = [
+        &[0o001],
+        &[0o001],
+        &[0o262],
+        &[0o262],
+        &[0o001, 0o262],
+        &[0o001, 0o262],
+        &[0o260],
+        &[0o001, 0o260],
+        &[0o270],
+        &[0o361],
+        &[0o032, 2],
+        &[0o035, 3],
+    ];
+    const ENDS: [&[u8]; 4] = [&[0o304], &[0o001, 0o304], &[0o354], &[0o035, 1]];
+    let mut code = Vec::new();
+    for _ in 0..random(most) {
+        code.extend(PIECES[random(12) as usize]);
+    }
+    code.extend(ENDS[random(4) as usize]);
+    code
+}
+
+/// The same with words that are saved and restored.
+#[test]
+fn the_fewest_is_in_every_other_with_saved_depths() {
+    const LISTS: [&[u32]; 6] = [&[], &[0], &[1], &[2], &[0, 0], &[0, 1]];
+    let mut random = numbers(262);
+    let marks = LISTS
+        .iter()
+        .flat_map(|list| (0..=3).map(|depth| entry_of(depth, 0, list)));
+    let values: Vec<u32> = marks.chain([FF]).collect();
+    let modules = (0..2500).map(|_| {
+        let mut code = saving_code(4, &mut random);
+        code.truncate(3);
+        Source::plain(&code)
+    });
+    try_all(modules, &values, 500);
+}
+
+/// The worklist agrees with naive sweeps on saved depths and calls too. Many
+/// codes fit, also with the most that can be saved.
+#[test]
+fn the_worklist_agrees_on_saved_depths() {
+    let mut random = numbers(260);
+    let mut accepted = [0; 5];
+    for _ in 0..200_000 {
+        let code = saving_code(16, &mut random);
+        let module = small_module(&code, &mut random);
+        let expected = naive_answer(&module);
+        if let Ok(marks) = &expected {
+            let lengths = marks.iter().filter(|&&mark| mark != FF);
+            let most = lengths.map(|mark| mark >> 8 & 7).max().unwrap_or(0);
+            accepted[most as usize] += 1;
+        }
+        assert_eq!(module_marks(&[module]), expected, "{code:?}");
+    }
+    assert!(accepted.iter().all(|&count| count > 40), "{accepted:?}");
 }
 
 /// Run and load agree: every map that load made is one that run takes.

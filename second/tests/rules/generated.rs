@@ -1,12 +1,14 @@
 //! The generator, its cases and their file; laws that hold in every case.
 
+use crate::rig::FF;
 use second::api::{run_observed, Buffers};
 use second::assemble::{self, Source};
 use second::case::{decode, encode, replay, Case, CaseRun, Checksum};
 use second::coverage::Coverage;
-use second::depths::{fits, Mark};
-use second::gen::{self, Scale, FULL, SMALL};
+use second::depths::fits;
+use second::gen::{self, Scale, FULL, ROUND, SMALL};
 use second::image::{parse, Module, Procedure};
+use second::mark::Mark;
 use second::opcode::row;
 use second::{load, run, start, Machine, RunAnswer};
 use std::cell::Cell;
@@ -37,7 +39,7 @@ fn everything_is_covered() {
     assert!(faults.contains(&"no run stopped with 30".to_string()));
     assert!(faults.contains(&"run never answered 12".to_string()));
     let ending = |end: &str| faults.iter().filter(|f| f.ends_with(end)).count();
-    assert_eq!(ending("executed"), 198);
+    assert_eq!(ending("executed"), 200);
     // Each load and store of a pair fails by either address.
     let cut = "opcode 041 LLD never stopped with 32 by its second address alone";
     assert!(faults.contains(&cut.to_string()));
@@ -48,15 +50,35 @@ fn everything_is_covered() {
         assert_eq!(ending(&format!("images with results {results}")), 1);
     }
     let beginning = |begin: &str| faults.iter().filter(|f| f.starts_with(begin)).count();
-    assert_eq!(beginning("no images refused with 8 only for "), 4);
-    assert_eq!(beginning("no runs refused with 12 only for "), 1);
+    // The same, and what A.5 makes of saved depths.
+    assert_eq!(beginning("no images refused with 8 only for "), 4 + 7);
+    assert_eq!(beginning("no runs refused with 12 only for marks with "), 7);
+    let flaws = 4 + 4 + 5;
+    let one = "no runs refused with 12 only for one entry with ";
+    assert_eq!(beginning(one), flaws + 1);
+    let beyond = "no runs refused with 12 only for entries beyond load's marks with ";
+    assert_eq!(beginning(beyond), flaws);
+    assert_eq!(
+        beginning("no marks of accepted images with saved depths "),
+        5
+    );
+    assert_eq!(beginning("no steps of STORE "), 3 + 4 + 1);
+    assert_eq!(beginning("no stops of STORE with 33 "), 3);
+    assert_eq!(beginning("no steps of LODFW "), 16 + 4 + 1 + 3);
+    assert_eq!(beginning("no stops of LODFW with 34 "), 3);
+    assert_eq!(beginning("no LODFW beyond load's marks "), 2);
+    assert_eq!(beginning("no calls where depths are saved "), 4);
+    assert_eq!(beginning("no landings of "), 2 + 4);
     assert_eq!(ending("on a position with the same results"), 1);
     assert_eq!(ending("on a position with other results"), 1);
     // What A.3 makes of code that is not whole: six causes, opcodes that have
     // them, and places.
     assert!(faults.contains(&"load never answered 13".to_string()));
-    assert_eq!(beginning("no images refused with 13 for "), 6 + 6 + 4 + 8);
-    assert_eq!(beginning("no images refused with 13 "), 24 + 11);
+    assert_eq!(
+        beginning("no images refused with 13 for "),
+        6 + 6 + 4 + 8 + 2
+    );
+    assert_eq!(beginning("no images refused with 13 "), 26 + 11);
     assert_eq!(beginning("no images refused with 7 "), 1);
     assert_eq!(beginning("no images refused with 8 with whole code"), 1);
     // Ten collisions of transfers, with three sizes of either stack.
@@ -78,7 +100,7 @@ fn module_of(procedures: &[(u16, u8, u8)], code: &[u8]) -> Source {
 }
 
 /// A case of one module, with 16 inputs in each run.
-fn case_of(procedures: &[(u16, u8, u8)], code: &[u8], runs: &[CaseRun]) -> Case {
+pub fn case_of(procedures: &[(u16, u8, u8)], code: &[u8], runs: &[CaseRun]) -> Case {
     case_of_modules(&[module_of(procedures, code)], runs)
 }
 
@@ -97,7 +119,7 @@ fn case_of_modules(modules: &[Source], runs: &[CaseRun]) -> Case {
 }
 
 /// What a case reaches: what is missing without it, and not with it.
-fn reached(case: Case) -> Vec<String> {
+pub fn reached(case: Case) -> Vec<String> {
     let faults = |cases: Vec<Case>| Coverage::of(cases.into_iter()).faults();
     let missing = faults(vec![case]);
     let mut reached = faults(vec![]);
@@ -105,8 +127,8 @@ fn reached(case: Case) -> Vec<String> {
     reached
 }
 
-/// What a case reaches of A.2, but for its marks.
-fn reached_of_results(case: Case) -> Vec<String> {
+/// What a case reaches of refusals for one reason and of landings.
+pub fn reached_of_reasons(case: Case) -> Vec<String> {
     let mut reached = reached(case);
     reached.retain(|fault| fault.contains("only for ") || fault.contains("landings"));
     reached
@@ -116,7 +138,7 @@ fn reached_of_results(case: Case) -> Vec<String> {
 #[test]
 fn narrower_refusals_are_told_apart() {
     let check = |procedures: &[(u16, u8, u8)], code: &[u8], expected: &[&str]| {
-        let reached = reached_of_results(case_of(procedures, code, &[]));
+        let reached = reached_of_reasons(case_of(procedures, code, &[]));
         let refused = |kind: &&str| format!("no images refused with 8 only for {kind}");
         assert_eq!(reached, expected.iter().map(refused).collect::<Vec<_>>());
     };
@@ -152,33 +174,6 @@ fn narrower_refusals_are_told_apart() {
     check(&[main, (1, 1, 1)], &[0o336, 0o035, 1], &[]);
 }
 
-/// A run refused with 12 counts where bytes 85 to 254 in the code are the only
-/// reason. The code begins at byte 9.
-#[test]
-fn bytes_that_are_no_marks_are_told_apart() {
-    let reached = |map_patches: &[(u16, u8)]| {
-        let run = CaseRun {
-            map_patches: map_patches.to_vec(),
-            ..CaseRun::default()
-        };
-        let case = case_of(&[(0, 0, 0)], &[0o336, 0o354, 0o354], &[run]);
-        assert_eq!(case.image.len(), 12);
-        reached_of_results(case).len()
-    };
-    for byte in [85, 200, 254] {
-        assert_eq!(reached(&[(9, byte)]), 1);
-        assert_eq!(reached(&[(11, byte)]), 1);
-        assert_eq!(reached(&[(9, byte), (10, byte)]), 1);
-        // Outside the code, or with another reason.
-        assert_eq!(reached(&[(8, byte)]), 0);
-        assert_eq!(reached(&[(9, byte), (8, 0)]), 0);
-        assert_eq!(reached(&[(9, byte), (10, 17)]), 0);
-    }
-    for byte in [0, 1, 17, 84, 0xFF] {
-        assert_eq!(reached(&[(9, byte)]), 0);
-    }
-}
-
 /// A landing counts where it is the only step of its run.
 #[test]
 fn landings_are_told_apart() {
@@ -190,7 +185,7 @@ fn landings_are_told_apart() {
         let runs: Vec<CaseRun> = budgets.iter().map(run).collect();
         // CL1, a TRAP with a word put before it; 1 returns.
         let code = [0o361, 0o001, 0o304, 0o354];
-        reached_of_results(case_of(&[(0, 0, results), (3, 0, 0)], &code, &runs))
+        reached_of_reasons(case_of(&[(0, 0, results), (3, 0, 0)], &code, &runs))
     };
     let on = |kind: &str| {
         [format!(
@@ -468,8 +463,11 @@ fn a_short_map_is_told_apart() {
 #[test]
 fn kinds_of_code_that_is_not_whole_are_needed() {
     let missing = |left_out: &dyn Fn(u64) -> bool| {
-        // One case of 32 is of such code, one kind of ten after another.
-        let is_in = |&index: &u64| index % 32 != 6 || !left_out(index / 32 % 10);
+        // Two cases of a round are of such code, one kind of ten after another.
+        let is_in = |&index: &u64| match index % ROUND {
+            kind @ 0..=1 => !left_out((2 * (index / ROUND) + kind) % 10),
+            _ => true,
+        };
         let cases = (0..3008).filter(is_in);
         Coverage::of(cases.map(|index| gen::case(&SMALL, SEED, index))).faults()
     };
@@ -613,7 +611,7 @@ fn carries_and_borrows_are_generated() {
 #[test]
 fn files_of_cases_are_read_back() {
     // Each kind of large cases.
-    let cases: Vec<Case> = gen::cases(&FULL, 3, 32 * 4 * 10).collect();
+    let cases: Vec<Case> = gen::cases(&FULL, 3, ROUND * 4 * 10).collect();
     let file = encode(&cases);
     assert_eq!(file.len() % 2, 0);
     assert_eq!(decode(&file).as_ref(), Ok(&cases));
@@ -641,7 +639,7 @@ fn the_file_is_as_documented() {
     let case = Case {
         image: vec![0xAB, 0xCD, 0xEF],
         map_length: 4,
-        map_fill: 0x55,
+        map_fill: 0x1234_5678,
         store_length: 65_536,
         store_fill: 0x1234,
         outputs: vec![9, 10],
@@ -650,7 +648,7 @@ fn the_file_is_as_documented() {
                 budget: 0x0001_0002,
                 inputs: vec![11],
                 machine: Some(machine),
-                map_patches: vec![(3, 0xFF)],
+                map_patches: vec![(3, 0x9ABC_DEF0)],
                 store_patches: vec![(12, 13), (14, 15)],
             },
             // The inputs of the run before, and none.
@@ -661,9 +659,9 @@ fn the_file_is_as_documented() {
             CaseRun::default(),
         ],
     };
-    let mut expected: Vec<u16> = vec![0x4D43, 2, 0, 1];
+    let mut expected: Vec<u16> = vec![0x4D43, 3, 0, 1];
     expected.extend([0, 3, 0xABCD, 0xEF00]);
-    expected.extend([0, 4, 0x55]);
+    expected.extend([0, 4, 0x1234, 0x5678]);
     expected.extend([1, 0, 0x1234]);
     expected.extend([2, 9, 10]);
     expected.push(3);
@@ -672,7 +670,7 @@ fn the_file_is_as_documented() {
     expected.extend([1, 1, 2, 3, 4, 5, 6, 7, 8]);
     expected.push(13);
     expected.extend(0x100..0x10D);
-    expected.extend([1, 3, 0xFF]);
+    expected.extend([1, 3, 0x9ABC, 0xDEF0]);
     expected.extend([2, 12, 13, 14, 15]);
     expected.extend([0, 0, 0, 0, 0, 0]);
     expected.extend([0, 0, 1, 0, 0, 0, 0]);
@@ -712,7 +710,9 @@ fn an_outcome_is_printed_in_lines() {
     let text = replay(&case, &mut ()).to_string();
     let lines: Vec<&str> = text.lines().collect();
     assert_eq!(lines.len(), 3);
-    assert!(lines[0].starts_with("load 0 place 0 0 map ffffffff00010200 start 0 store "));
+    let map = "ffffffffffffffffffffffffffffffff00000000000000010000000200000000";
+    let loaded = format!("load 0 place 0 0 map {map} start 0 store ");
+    assert!(lines[0].starts_with(&loaded), "{}", lines[0]);
     assert!(lines[0].ends_with(" machine 0 0 0 131 139 143 143 0 stack"));
     let outputs = "outputs 3 3 7 3 3 3 3 3 3 3 3 3 3 3 3 3 store ";
     let stopped = format!("run 31 code 0 count 3 machine 0 3 0 131 139 143 143 0 stack {outputs}");
@@ -731,7 +731,9 @@ fn an_outcome_has_the_place() {
         ..Case::default()
     };
     let text = replay(&case, &mut ()).to_string();
-    assert!(text.starts_with("load 13 place 1 1 map ffffffffffffffffffff00 start 9 "));
+    let unmarked = "ffffffff".repeat(10);
+    let loaded = format!("load 13 place 1 1 map {unmarked}00000000 start 9 ");
+    assert!(text.starts_with(&loaded), "{text}");
 }
 
 /// The stack is printed up to its last word that is not 0.
@@ -782,7 +784,7 @@ struct State {
 }
 
 impl State {
-    fn run(&mut self, case: &Case, map: &[u8], inputs: &[u16], n: u32) -> RunAnswer {
+    fn run(&mut self, case: &Case, map: &[u32], inputs: &[u16], n: u32) -> RunAnswer {
         let answer = run(
             self.machine,
             &case.image,
@@ -798,7 +800,7 @@ impl State {
 }
 
 /// Replays cases and hands each run's state before it to a check.
-fn for_each_run(cases: impl Iterator<Item = Case>, check: impl Fn(&Case, &[u8], &CaseRun, State)) {
+fn for_each_run(cases: impl Iterator<Item = Case>, check: impl Fn(&Case, &[u32], &CaseRun, State)) {
     for case in cases {
         let mut map = vec![case.map_fill; case.map_length];
         load(&case.image, &mut map);
@@ -810,8 +812,8 @@ fn for_each_run(cases: impl Iterator<Item = Case>, check: impl Fn(&Case, &[u8], 
             outputs: case.outputs.clone(),
         };
         for run in &case.runs {
-            for &(offset, byte) in &run.map_patches {
-                map[usize::from(offset)] = byte;
+            for &(offset, entry) in &run.map_patches {
+                map[usize::from(offset)] = entry;
             }
             for &(address, word) in &run.store_patches {
                 state.store[usize::from(address)] = word;
@@ -836,12 +838,12 @@ fn lent_result_counts_are_generated() {
         let program = parse(&case.image).unwrap();
         let fit = fits(&program, &case.image, map);
         let mut mended = map.to_vec();
-        for (byte, &least) in mended.iter_mut().zip(&loaded) {
-            match (Mark::decode(*byte), Mark::decode(least)) {
+        for (entry, &least) in mended.iter_mut().zip(&loaded) {
+            match (Mark::decode(*entry), Mark::decode(least)) {
                 (Some(mark), None) if fit && mark.results > 0 => beyond.set(beyond.get() + 1),
                 (Some(mark), Some(least)) => {
-                    let depth = mark.depth;
-                    *byte = Mark { depth, ..least }.encode();
+                    let results = least.results;
+                    *entry = Mark { results, ..mark }.encode();
                 }
                 _ => {}
             }
@@ -955,12 +957,12 @@ fn refused_loads_and_starts_leave_their_buffers() {
         let mut map = vec![case.map_fill; case.map_length];
         match load(&case.image, &mut map).number {
             0 => {}
-            8 | 13 => assert_eq!(map[..length], vec![0xFF; length]),
+            8 | 13 => assert_eq!(map[..length], vec![FF; length]),
             _ => assert_eq!(map, vec![case.map_fill; case.map_length]),
         }
         if case.map_length > length {
             let past = &map[length..];
-            assert!(past.iter().all(|&byte| byte == case.map_fill));
+            assert!(past.iter().all(|&entry| entry == case.map_fill));
         }
         let mut store = vec![case.store_fill; case.store_length];
         let (number, machine) = start(&case.image, &mut store);

@@ -353,14 +353,14 @@ fn rows_say_what_the_steps_do() {
 }
 
 /// Jumps, channels, stack and procedure instructions have tests of their own,
-/// here, in `procedures` and in `transfer`; with those every listed opcode is
-/// checked.
+/// here, in `procedures`, in `transfer` and in `saved`; with those every listed
+/// opcode is checked.
 #[test]
 fn every_listed_opcode_has_a_step() {
     let mut checked: Vec<u8> = plain_steps().iter().map(|s| s.instruction[0]).collect();
     checked.extend(0o030..=0o037);
     checked.extend([0o240, 0o241, 0o304, 0o353]);
-    checked.extend([0o354, 0o355, 0o356, 0o256]);
+    checked.extend([0o354, 0o355, 0o356, 0o256, 0o260, 0o262]);
     checked.extend(0o360..=0o377);
     checked.sort();
     checked.dedup();

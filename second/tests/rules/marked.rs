@@ -1,6 +1,6 @@
 //! The marked cases, as the paper prints them, and the desk's reading.
 
-use crate::rig::Rig;
+use crate::rig::{Rig, FF};
 use second::{desk, load};
 
 const EXAMPLE: [u8; 8] = [0x01, 0x00, 0x00, 0x04, 0x02, 0x07, 0xA1, 0xEC];
@@ -29,10 +29,7 @@ fn stop_and_stack(code: &[u8]) -> (u8, Vec<u16>) {
 fn the_example_has_its_map() {
     let mut map = [0x55; 10];
     assert_eq!(load(&EXAMPLE, &mut map).number, 0);
-    assert_eq!(
-        map,
-        [0xFF, 0xFF, 0xFF, 0xFF, 0x00, 0x01, 0x02, 0x00, 0x55, 0x55]
-    );
+    assert_eq!(map, [FF, FF, FF, FF, 0, 1, 2, 0, 0x55, 0x55]);
 }
 
 #[test]
@@ -65,8 +62,7 @@ const DOUBLE: [u8; 31] = [
 fn double_words_have_their_map() {
     let mut map = [0x55; 32];
     assert_eq!(load(&DOUBLE, &mut map).number, 0);
-    let unmarked = 0xFF;
-    let mut expected = vec![unmarked; 31];
+    let mut expected = vec![FF; 31];
     for (position, depth) in [
         (0, 0),
         (5, 2),

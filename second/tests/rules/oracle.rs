@@ -1,7 +1,9 @@
-//! A.3 once more, naively and from the paper's sentences alone: positions are
-//! added to a set, one sweep after another, until nothing changes.
+//! A.3 and the fewest assignment once more, naively and from the paper's
+//! sentences alone: positions are added to a set, or marks to a map, one sweep
+//! after another, until nothing changes.
 
-use second::image::Program;
+use crate::rig::{entry_of, FF};
+use second::image::{Procedure, Program};
 use std::collections::BTreeSet;
 
 /// The bytes of an opcode's operands, or None where it is not listed.
@@ -15,7 +17,8 @@ pub fn operands(opcode: u8) -> Option<i64> {
         0o000..=0o017 | 0o044..=0o057 | 0o064..=0o077 => Some(0),
         0o102..=0o117 | 0o122..=0o137 | 0o140..=0o177 => Some(0),
         0o202 | 0o205 | 0o206 | 0o210 | 0o211 | 0o222 | 0o225 | 0o226 => Some(0),
-        0o240 | 0o241 | 0o245 | 0o252..=0o255 | 0o265 | 0o270..=0o277 => Some(0),
+        0o240 | 0o241 | 0o245 | 0o252..=0o255 | 0o260 | 0o262 | 0o265 => Some(0),
+        0o270..=0o277 => Some(0),
         0o304..=0o306 | 0o310..=0o317 | 0o320..=0o323 | 0o327..=0o333 | 0o336 => Some(0),
         0o351 | 0o354 | 0o361..=0o377 => Some(0),
         _ => None,
@@ -104,4 +107,89 @@ pub fn first_fault(program: &Program, image: &[u8]) -> Option<(u8, u16)> {
         }
     }
     None
+}
+
+/// A mark: depth, results, saved depths from the front.
+type Mark = (i32, i32, Vec<i32>);
+
+/// The fewest assignment of a code, for a few opcodes alone, as map entries.
+pub fn fewest(code: &[u8], procedures: &[Procedure]) -> Option<Vec<u32>> {
+    let mut marks: Vec<Option<Mark>> = vec![None; code.len()];
+    for it in procedures {
+        let mark = (it.parameters.into(), it.results.into(), vec![]);
+        put(&mut marks, it.entry.into(), mark)?;
+    }
+    loop {
+        let before = marks.clone();
+        for p in 0..code.len() {
+            if let Some(mark) = marks[p].clone() {
+                for (target, mark) in next_marks(code, procedures, p, &mark)? {
+                    put(&mut marks, target, mark)?;
+                }
+            }
+        }
+        if marks == before {
+            return Some(marks.iter().map(entry).collect());
+        }
+    }
+}
+
+/// Sets a mark, where the position has none or this one.
+fn put(marks: &mut [Option<Mark>], target: i32, mark: Mark) -> Option<()> {
+    let place = marks.get_mut(usize::try_from(target).ok()?)?;
+    if !(0..=16).contains(&mark.0) || mark.2.len() > 4 {
+        return None;
+    }
+    let other = place.get_or_insert_with(|| mark.clone());
+    (*other == mark).then_some(())
+}
+
+fn entry(mark: &Option<Mark>) -> u32 {
+    mark.as_ref().map_or(FF, |(depth, results, saved)| {
+        let saved: Vec<u32> = saved.iter().map(|&depth| depth as u32).collect();
+        entry_of(*depth as u32, *results as u32, &saved)
+    })
+}
+
+/// The successors of a position, with their marks.
+fn next_marks(
+    code: &[u8],
+    procedures: &[Procedure],
+    p: usize,
+    (d, results, saved): &Mark,
+) -> Option<Vec<(i32, Mark)>> {
+    let d = *d;
+    let b = code.get(p + 1).map(|&b| i32::from(b));
+    let at = p as i32 + 1;
+    let callee = procedures.get(1).filter(|it| i32::from(it.parameters) == d);
+    let depths = match code[p] {
+        0o262 => {
+            let list = [&[d], &saved[..]].concat();
+            return Some(vec![(at, (0, *results, list))]);
+        }
+        0o260 => {
+            let (front, rest) = saved.split_first()?;
+            let fits = d == 1 && *front <= 15;
+            return fits.then(|| vec![(at, (front + 1, *results, rest.to_vec()))]);
+        }
+        0o354 => return (d == *results && saved.is_empty()).then(Vec::new),
+        0o000..=0o017 => vec![(at, d + 1)],
+        0o032 => vec![(at + b?, d - 1), (at + 1, d - 1)],
+        0o033 => vec![(at + b?, d)],
+        0o034 => vec![(at - b?, d - 1), (at + 1, d - 1)],
+        0o035 => vec![(at - b?, d)],
+        0o036 | 0o037 => vec![(at + b?, d), (at + 1, d - 1)],
+        0o270 if d >= 2 => vec![(at, d - 1)],
+        0o265 if d >= 1 => vec![(at, d + 1)],
+        0o023 if p + 5 <= code.len() => vec![(at + 4, d + 2)],
+        0o202 if d >= 1 => vec![(at, d + 1)],
+        0o222 if d >= 3 => vec![(at, d - 3)],
+        0o210 if d >= 4 => vec![(at, d - 2)],
+        0o336 => vec![(at, d)],
+        0o361 => vec![(at, callee?.results.into())],
+        0o304 if d >= 1 => vec![],
+        _ => return None,
+    };
+    let with_list = |(to, depth)| (to, (depth, *results, saved.clone()));
+    Some(depths.into_iter().map(with_list).collect())
 }

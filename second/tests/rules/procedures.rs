@@ -1,19 +1,11 @@
 //! Calls and returns.
 
 use crate::rig::{
-    at_instruction, at_instruction_of, entry, here, set_stack, Rig, BASE_0, BASE_1, H, L, S, WORDS,
+    at_instruction, at_instruction_of, entry, here, procedure, set_stack, Rig, BASE_0, BASE_1, H,
+    L, S, WORDS,
 };
 use second::assemble::Source;
-use second::image::Procedure;
 use second::Machine;
-
-fn procedure(entry: u16, parameters: u8, results: u8) -> Procedure {
-    Procedure {
-        entry,
-        parameters,
-        results,
-    }
-}
 
 #[test]
 fn local_calls() {

@@ -1,7 +1,7 @@
 //! Refusals 1 to 12: each, their order, and what they leave alone. Those of
 //! code that is not whole are in `whole.rs`.
 
-use crate::rig::{Rig, WORDS};
+use crate::rig::{Rig, FF, WORDS};
 use second::assemble::{encode, Source};
 use second::image::{parse, Procedure};
 use second::{load, run, start, Machine};
@@ -140,12 +140,12 @@ fn load_refuses_in_order_and_leaves_the_map() {
     assert_eq!(map, [0x55; 7]);
     // 8 sets FF over the image's length.
     assert_eq!(load(&unfit, &mut map).number, 8);
-    assert_eq!(map, [0xFF, 0xFF, 0xFF, 0xFF, 0xFF, 0x55, 0x55]);
+    assert_eq!(map, [FF, FF, FF, FF, FF, 0x55, 0x55]);
     // Also where module 0 fits and only module 1 does not.
     let mut map = [0x55; 10];
     let second = [0x02, 0x00, 0x00, 0x01, 0xEC, 0x00, 0x00, 0x01, 0xC4];
     assert_eq!(load(&second, &mut map).number, 8);
-    assert_eq!(map[..9], [0xFF; 9]);
+    assert_eq!(map[..9], [FF; 9]);
     assert_eq!(map[9], 0x55);
     // A bad header behind unfit code is found first.
     let mut map = [0x55; 7];
@@ -354,7 +354,7 @@ fn what_a_machine_is() {
         ..Source::plain(&[0o001, 0o033, 2, 0o000, 0o354])
     };
     let rig = Rig::new(&[module], WORDS);
-    assert_eq!(rig.map[9..], [17, 18, 0xFF, 0xFF, 18]);
+    assert_eq!(rig.map[9..], [32, 33, FF, FF, 33]);
     let machine = rig.machine;
     let number = |change: fn(&mut Machine)| {
         let mut machine = machine;
@@ -400,7 +400,7 @@ fn a_position_past_the_code_is_not_one_of_the_next_module() {
     // Position 5 of module 0 would be position 0 of module 1.
     let module = Source::plain(&[0o336, 0o354]);
     let rig = Rig::new(&[module.clone(), module], WORDS);
-    assert_eq!(rig.map[4..], [0, 0, 0xFF, 0xFF, 0xFF, 0, 0]);
+    assert_eq!(rig.map[4..], [0, 0, FF, FF, FF, 0, 0]);
     let machine = Machine {
         pc: 5,
         ..rig.machine

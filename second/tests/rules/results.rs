@@ -1,46 +1,29 @@
 //! A.2: "A return must carry what the procedure promised."
 
-use crate::rig::{at_instruction, at_instruction_of, entry, Rig, BASE_0, FOR_EVER, WORDS};
+use crate::rig::{at_instruction, at_instruction_of, entry, entry_of, module, procedure};
+use crate::rig::{run_number, Rig, BASE_0, FF, FOR_EVER, WORDS};
 use second::assemble::{encode, Source};
-use second::depths::Mark;
-use second::image::Procedure;
 use second::{desk, load, Machine};
 
-const FF: u8 = 0xFF;
 const LI1: u8 = 0o001;
 const SLW4: u8 = 0o064;
 const TRAP: u8 = 0o304;
 const NOP: u8 = 0o336;
 const RTN: u8 = 0o354;
 
-fn procedure(entry: u16, parameters: u8, results: u8) -> Procedure {
-    Procedure {
-        entry,
-        parameters,
-        results,
-    }
-}
-
-fn module(procedures: &[Procedure], code: &[u8]) -> Source {
-    Source {
-        procedures: procedures.to_vec(),
-        ..Source::plain(code)
-    }
-}
-
 /// So many words, and then these bytes.
 fn words_and(count: u8, rest: &[u8]) -> Vec<u8> {
     [&vec![LI1; count.into()], rest].concat()
 }
 
-/// "A map byte becomes depth + 17 × results".
-fn byte(depth: u8, results: u8) -> u8 {
-    depth + 17 * results
+/// The map entry of a mark where nothing is saved.
+fn mark(depth: u8, results: u8) -> u32 {
+    entry_of(depth.into(), results.into(), &[])
 }
 
-/// Load's map of the last module's code, or None for refusal 8, which leaves FF
-/// over the image's length.
-fn marks(modules: &[Source]) -> Option<Vec<u8>> {
+/// Load's map of the last module's code, or None for refusal 8, which leaves all
+/// ones over the image's length.
+fn marks(modules: &[Source]) -> Option<Vec<u32>> {
     let image = encode(modules);
     let mut map = vec![0x77; image.len() + 1];
     let number = load(&image, &mut map).number;
@@ -56,25 +39,9 @@ fn marks(modules: &[Source]) -> Option<Vec<u8>> {
 }
 
 /// The same of one procedure, behind a module 0 that only returns.
-fn marks_of(parameters: u8, results: u8, code: &[u8]) -> Option<Vec<u8>> {
+fn marks_of(parameters: u8, results: u8, code: &[u8]) -> Option<Vec<u32>> {
     let procedures = [procedure(0, parameters, results)];
     marks(&[Source::plain(&[RTN]), module(&procedures, code)])
-}
-
-/// "A map byte becomes depth + 17 × results, and FF stays unmarked."
-#[test]
-fn map_bytes() {
-    let mut bytes = Vec::new();
-    for results in 0..=4 {
-        for depth in 0..=16 {
-            let mark = Mark { depth, results };
-            assert_eq!(mark.encode(), byte(depth, results));
-            assert_eq!(Mark::decode(mark.encode()), Some(mark));
-            bytes.push(mark.encode());
-        }
-    }
-    assert_eq!(bytes, (0..=84).collect::<Vec<u8>>());
-    assert!((85..=255).all(|byte| Mark::decode(byte).is_none()));
 }
 
 /// "an entry has its procedure's, and a successor has its predecessor's"
@@ -82,14 +49,14 @@ fn map_bytes() {
 fn entries_and_successors_carry_the_result_count() {
     for results in 0..=4 {
         for parameters in 0..=16 {
-            let mark = byte(parameters, results);
+            let mark = mark(parameters, results);
             let code = [NOP, FOR_EVER[0], FOR_EVER[1]];
             let expected = vec![mark, mark, FF];
             assert_eq!(marks_of(parameters, results, &code), Some(expected));
         }
         // LI1, LI1, JPFC to the TRAP, COPT, SLW4, TRAP.
         let code = [LI1, LI1, 0o032, 3, 0o265, SLW4, TRAP];
-        let mut expected = [0, 1, 2, 0, 1, 2, 1].map(|depth| byte(depth, results));
+        let mut expected = [0, 1, 2, 0, 1, 2, 1].map(|depth| mark(depth, results));
         expected[3] = FF;
         assert_eq!(marks_of(0, results, &code), Some(expected.to_vec()));
     }
@@ -109,7 +76,7 @@ fn a_return_has_just_the_results() {
             let put = marks_of(0, results, &words_and(depth, &[RTN]));
             assert_eq!(put.is_some(), right, "{depth} words, {results} results");
             let taken = marks_of(depth, results, &[RTN]);
-            assert_eq!(taken, right.then(|| vec![byte(depth, results)]));
+            assert_eq!(taken, right.then(|| vec![mark(depth, results)]));
         }
     }
     // Each return of a procedure: LI1, JPFC to the second one, LI1, RTN, then
@@ -119,7 +86,10 @@ fn a_return_has_just_the_results() {
     assert_eq!(marks_of(0, 1, &code(&[RTN])), None);
     assert_eq!(marks_of(0, 1, &code(&[LI1, LI1, RTN])), None);
     // Where nothing reaches it, a return may stand as it likes.
-    assert_eq!(marks_of(0, 1, &[LI1, RTN, RTN]), Some(vec![17, 18, FF]));
+    assert_eq!(
+        marks_of(0, 1, &[LI1, RTN, RTN]),
+        Some(vec![mark(0, 1), mark(1, 1), FF])
+    );
 }
 
 /// The main program calls 1, which promises a word and returns with two: "They
@@ -156,7 +126,7 @@ fn the_main_program_has_its_results() {
 fn a_trap_fits_at_any_depth() {
     for results in 0..=4 {
         for depth in 1..=16 {
-            let expected = Some(vec![byte(depth, results)]);
+            let expected = Some(vec![mark(depth, results)]);
             assert_eq!(marks_of(depth, results, &[TRAP]), expected);
         }
         assert_eq!(marks_of(0, results, &[TRAP]), None);
@@ -177,10 +147,10 @@ fn a_call_keeps_the_callers_result_count() {
             let procedures = [procedure(0, 0, own), procedure(main.len() as u16, 0, given)];
             let module = module(&procedures, &[&main[..], &callee].concat());
             let map = marks(std::slice::from_ref(&module)).unwrap();
-            assert_eq!(map[2..4], [byte(0, own), byte(given, own)]);
-            assert_eq!(map[main.len() - 1], byte(own, own));
-            assert_eq!(map[main.len()], byte(0, given));
-            assert_eq!(map.last(), Some(&byte(given, given)));
+            assert_eq!(map[2..4], [mark(0, own), mark(given, own)]);
+            assert_eq!(map[main.len() - 1], mark(own, own));
+            assert_eq!(map[main.len()], mark(0, given));
+            assert_eq!(map.last(), Some(&mark(given, given)));
             let mut rig = Rig::new(&[module], WORDS);
             assert_eq!(rig.run(100).number, 31);
             assert_eq!(rig.machine.depth, own);
@@ -192,7 +162,7 @@ fn a_call_keeps_the_callers_result_count() {
         let entry = call.len() + 2;
         let procedures = [procedure(0, 0, 3), procedure(entry as u16, 0, 2)];
         let map = marks(&[module(&procedures, &code)]).unwrap();
-        assert_eq!(map[call.len()..entry], [byte(2, 3), byte(1, 3)]);
+        assert_eq!(map[call.len()..entry], [mark(2, 3), mark(1, 3)]);
     }
 }
 
@@ -211,11 +181,11 @@ fn shared_entries_need_equal_results() {
                 marks(&[module(&procedures, &[&[RTN], code].concat())])
             };
             let equal = one == other;
-            let expected = equal.then(|| vec![0, byte(2, one)]);
+            let expected = equal.then(|| vec![0, mark(2, one)]);
             assert_eq!(shared(2, &[TRAP]), expected);
-            let expected = equal.then(|| vec![0, byte(0, one), FF]);
+            let expected = equal.then(|| vec![0, mark(0, one), FF]);
             assert_eq!(shared(0, &FOR_EVER), expected);
-            let expected = equal.then(|| vec![0, byte(one, one)]);
+            let expected = equal.then(|| vec![0, mark(one, one)]);
             assert_eq!(shared(one, &[RTN]), expected);
         }
     }
@@ -229,7 +199,7 @@ fn shared_entries_need_equal_results() {
 fn shared_code_needs_equal_results() {
     // 1 at position 1: LI1, JPF to 5. 2 at position 4: LI1. At 5 the code that
     // they share, with one word.
-    let endings: [(&[u8], &[u8]); 3] = [(&[TRAP], &[]), (&[RTN], &[]), (&FOR_EVER, &[FF])];
+    let endings: [(&[u8], &[u32]); 3] = [(&[TRAP], &[]), (&[RTN], &[]), (&FOR_EVER, &[FF])];
     for (ending, unmarked) in endings {
         for one in 0..=4 {
             for other in 0..=4 {
@@ -239,7 +209,7 @@ fn shared_code_needs_equal_results() {
                     procedure(4, 0, other),
                 ];
                 let code = [&[RTN, LI1, 0o033, 2, LI1], ending].concat();
-                let [none, word] = [byte(0, one), byte(1, one)];
+                let [none, word] = [mark(0, one), mark(1, one)];
                 let expected = [&[0, none, word, FF, none, word], unmarked].concat();
                 let fits = one == other && (ending[0] != RTN || one == 1);
                 assert_eq!(
@@ -258,49 +228,29 @@ fn shared_code_needs_equal_results() {
     }
 }
 
-/// Run's number for a map of a plain module's code; 30 where it fits.
-fn run_number(code: &[u8], part: &[u8]) -> u8 {
-    let mut rig = Rig::plain(code);
-    rig.map[4..].copy_from_slice(part);
-    rig.run(0).number
-}
-
-/// "85 to 254 never fit": 12, also where nothing reaches the position.
-#[test]
-fn map_bytes_from_85_on_are_12() {
-    let unreached = [RTN, FOR_EVER[0], FOR_EVER[1]];
-    for byte in 0..=255 {
-        let number = if (85..=254).contains(&byte) { 12 } else { 30 };
-        assert_eq!(run_number(&unreached, &[0, byte, FF]), number, "{byte}");
-        // In place of the only mark that the entry can have.
-        let number = if byte == 0 { 30 } else { 12 };
-        assert_eq!(run_number(&FOR_EVER, &[byte, FF]), number, "{byte}");
-    }
-}
-
 /// Run tests a lent map by the same rules. Marks beyond the fewest have any
 /// result count, if it agrees with them.
 #[test]
 fn run_tests_the_result_counts_of_a_lent_map() {
     for depth in 0..=16 {
         for results in 0..=4 {
-            let mark = byte(depth, results);
+            let here = mark(depth, results);
             let number = |fits| if fits { 30 } else { 12 };
             // A return needs its depth, a TRAP only its word.
             let returns = depth == results;
-            assert_eq!(run_number(&[RTN, RTN], &[0, mark]), number(returns));
-            assert_eq!(run_number(&[RTN, TRAP], &[0, mark]), number(depth > 0));
+            assert_eq!(run_number(&[RTN, RTN], &[0, here]), number(returns));
+            assert_eq!(run_number(&[RTN, TRAP], &[0, here]), number(depth > 0));
             // A successor has the same results.
             let code = [RTN, NOP, FOR_EVER[0], FOR_EVER[1]];
             for other in 0..=4 {
-                let part = [0, mark, byte(depth, other), FF];
+                let part = [0, here, mark(depth, other), FF];
                 assert_eq!(run_number(&code, &part), number(other == results));
             }
             // So has the next position of a call, here of procedure 0.
             let code = [RTN, 0o360, 0, FOR_EVER[0], FOR_EVER[1]];
-            let part = [0, mark, FF, byte(0, results), FF];
+            let part = [0, here, FF, mark(0, results), FF];
             assert_eq!(run_number(&code, &part), number(depth == 0));
-            let part = [0, byte(0, results), FF, byte(0, (results + 1) % 5), FF];
+            let part = [0, mark(0, results), FF, mark(0, (results + 1) % 5), FF];
             assert_eq!(run_number(&code, &part), 12);
         }
     }
@@ -308,10 +258,10 @@ fn run_tests_the_result_counts_of_a_lent_map() {
     let code = [NOP, FOR_EVER[0], FOR_EVER[1]];
     assert_eq!(run_number(&code, &[0, 0, FF]), 30);
     for results in 1..=4 {
-        let mark = byte(0, results);
-        assert_eq!(run_number(&code, &[mark, mark, FF]), 12);
-        assert_eq!(run_number(&code, &[mark, 0, FF]), 12);
-        assert_eq!(run_number(&code, &[0, mark, FF]), 12);
+        let other = mark(0, results);
+        assert_eq!(run_number(&code, &[other, other, FF]), 12);
+        assert_eq!(run_number(&code, &[other, 0, FF]), 12);
+        assert_eq!(run_number(&code, &[0, other, FF]), 12);
     }
 }
 
@@ -355,9 +305,9 @@ fn a_restore_compares_the_depth_only() {
     let mut rig = restore(entry(14), 2);
     assert_eq!(rig.run(1).count, 1);
     assert_eq!((rig.machine.pc, rig.stack()), (entry(14), &[5, 6][..]));
-    // Another depth, and the map byte itself for the count.
+    // Another depth, and the map entry itself for the count.
     restore(entry(14), 1).expect_stop(35, 0);
-    restore(entry(14), byte(2, 1).into()).expect_stop(35, 0);
+    restore(entry(14), mark(2, 1) as u16).expect_stop(35, 0);
     restore(1, 2).expect_stop(35, 0);
 }
 
@@ -370,11 +320,12 @@ fn a_machine_compares_the_depth_only() {
         rig.run(0).number
     };
     assert_eq!(number(entry(14), 2), 30);
-    assert_eq!(number(entry(14), byte(2, 1)), 11);
+    assert_eq!(number(entry(14), mark(2, 1) as u8), 11);
     assert_eq!(number(entry(14), 1), 11);
     assert_eq!(number(entry(15), 16), 30);
-    assert_eq!(number(entry(15), byte(16, 4)), 11);
+    assert_eq!(number(entry(15), mark(16, 4) as u8), 11);
     // The operand of the first jump is unmarked.
     assert_eq!(number(1, 0), 11);
-    assert_eq!(number(1, FF), 11);
+    assert_eq!(number(1, 255), 11);
+    assert_eq!(number(1, 31), 11);
 }

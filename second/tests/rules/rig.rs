@@ -6,11 +6,44 @@ use second::{load, run, start, Machine, RunAnswer};
 
 pub const WORDS: usize = 4096;
 
+/// "all ones is unmarked"
+pub const FF: u32 = u32::MAX;
+
+/// A.5: "depth in bits 0 to 4, results 5 to 7, list length 8 to 10, then five
+/// bits for each saved depth from the front".
+pub fn entry_of(depth: u32, results: u32, saved: &[u32]) -> u32 {
+    let list = (11..).step_by(5).zip(saved);
+    let list: u32 = list.map(|(bit, depth)| depth << bit).sum();
+    depth + 32 * results + 256 * saved.len() as u32 + list
+}
+
+/// Run's number for a map of a plain module's code; 30 where it fits.
+pub fn run_number(code: &[u8], part: &[u32]) -> u8 {
+    let mut rig = Rig::plain(code);
+    rig.map[4..].copy_from_slice(part);
+    rig.run(0).number
+}
+
+pub fn procedure(entry: u16, parameters: u8, results: u8) -> Procedure {
+    Procedure {
+        entry,
+        parameters,
+        results,
+    }
+}
+
+pub fn module(procedures: &[Procedure], code: &[u8]) -> Source {
+    Source {
+        procedures: procedures.to_vec(),
+        ..Source::plain(code)
+    }
+}
+
 /// A loaded and started program.
 #[derive(Clone)]
 pub struct Rig {
     pub image: Vec<u8>,
-    pub map: Vec<u8>,
+    pub map: Vec<u32>,
     pub store: Vec<u16>,
     pub outputs: [u16; 16],
     pub inputs: [u16; 16],

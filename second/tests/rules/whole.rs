@@ -1,7 +1,7 @@
 //! A.3: "Tell bad code from bad depths."
 
 use crate::oracle;
-use crate::rig::{FOR_EVER, WORDS};
+use crate::rig::{FF, FOR_EVER, WORDS};
 use second::assemble::{encode, Source};
 use second::depths::assign;
 use second::gen::{self, FULL, SMALL};
@@ -45,7 +45,7 @@ fn answer_to(image: &[u8]) -> Answer {
     let answer = parts(load(image, &mut map));
     assert_eq!(map[length..], [0x77; 2]);
     if answer.0 != 0 {
-        assert_eq!(map[..length], vec![0xFF; length]);
+        assert_eq!(map[..length], vec![FF; length]);
     }
     answer
 }
@@ -516,7 +516,7 @@ fn other_refusals_come_first() {
     }
     let mut map = vec![0x77; image.len()];
     assert_eq!(parts(load(&image, &mut map)), (13, 0, 0));
-    assert_eq!(map, vec![0xFF; image.len()]);
+    assert_eq!(map, vec![FF; image.len()]);
     // A header fault behind the code, with a map that is too short.
     let later = |rest: &[u8]| [&[2, 0, 0, 1, UNLISTED], rest].concat();
     for (image, number) in [
@@ -559,7 +559,7 @@ fn start_and_run_know_no_13() {
     let mut store = vec![0; WORDS];
     let (number, machine) = start(&image, &mut store);
     assert_eq!(number, 0);
-    let number = |machine: Machine, map: &[u8], words: usize, channels: usize| {
+    let number = |machine: Machine, map: &[u32], words: usize, channels: usize| {
         let (mut store, mut outputs) = (vec![0; words], vec![0; channels]);
         let inputs = vec![0; channels];
         let answer = run(machine, &image, map, &mut store, &mut outputs, &inputs, 5);
@@ -575,8 +575,8 @@ fn start_and_run_know_no_13() {
         ..machine
     };
     assert_eq!(number(broken, &map, 10, 15), 12);
-    for first in [0, 0xFF] {
-        for second in 0..=255 {
+    for first in [0, FF] {
+        for second in (0..=255).chain([256, FF]) {
             map[4..].copy_from_slice(&[first, second]);
             assert_eq!(number(machine, &map, WORDS, 16), 12);
         }
@@ -627,10 +627,10 @@ fn numbers(mut state: u64) -> impl FnMut(usize) -> usize {
 /// Up to three modules of short code, with up to three procedures each. Half of
 /// the bytes are small numbers: operands that stay inside, and literals.
 fn random_image(random: &mut impl FnMut(usize) -> usize) -> Vec<u8> {
-    const OPCODES: [u8; 30] = [
+    const OPCODES: [u8; 32] = [
         0o020, 0o022, 0o023, 0o027, 0o030, 0o031, 0o032, 0o033, 0o034, 0o035, 0o036, 0o037, 0o042,
         0o043, 0o062, 0o063, 0o265, 0o270, 0o304, 0o336, 0o336, 0o354, 0o354, 0o355, 0o356, 0o360,
-        0o361, 0o362, 0o363, 0o021,
+        0o361, 0o362, 0o363, 0o021, 0o260, 0o262,
     ];
     let modules: Vec<Source> = (0..1 + random(3))
         .map(|_| {
@@ -672,7 +672,7 @@ fn compare(image: &[u8]) -> Option<u8> {
         let mut expected = Vec::new();
         for (number, module) in program.modules.iter().enumerate() {
             let code = &map[module.code_range()];
-            let positions = (0..code.len() as i64).filter(|&p| code[p as usize] != 0xFF);
+            let positions = (0..code.len() as i64).filter(|&p| code[p as usize] != FF);
             marked.push(positions.collect::<Vec<i64>>());
             let reached = oracle::reached(&program, image, number);
             expected.push(reached.into_iter().collect::<Vec<i64>>());

@@ -3,6 +3,7 @@ use mathlib.Core.Path.{ap, _∙_}
 use Prim.Native.Nat.{ℕ}
 use lib.ListN.{replicate}
 use borrow.Author.Needs.{needs}
+use Rattle.mcode.specs.Depths.{unmarked}
 use Rattle.depths.proofs.check.Statement.{statement}
 use Rattle.depths.proofs.check.Tie as tie
 
@@ -28,7 +29,7 @@ same-length-4 : tie.Need-same-length-4
 same-length-4 c = search needs
 
 returns-2 : tie.Need-returns-2
-returns-2 c = (rw (c .before .before .before .before .if1 .left) at (c .before .before .before .before .before .before .before .before .before .find .ensures), c .before .before .blank .ensures ∙ ap (λ (n : ℕ). replicate n 255) (c .before .before .before .before .before .before .before .before .before .find .kept .1 .0 ∙ c .before .before .before .before .before .before .before .before .before .before .before .before .before .before .before .pre .1 .0))
+returns-2 c = (rw (c .before .before .before .before .if1 .left) at (c .before .before .before .before .before .before .before .before .before .find .ensures), c .before .before .blank .ensures ∙ ap (λ (n : ℕ). replicate n unmarked) (c .before .before .before .before .before .before .before .before .before .find .kept .1 .0 ∙ c .before .before .before .before .before .before .before .before .before .before .before .before .before .before .before .pre .1 .0))
 
 pub check-spec : {M : Type 1} → statement M
 check-spec =

@@ -1,5 +1,6 @@
 -- One turn of the search: the position at h leaves the queue with its successors marked and the next turn is known, or no assignment fits.
 use mathlib.Core.Path.{_≡_, sym, _∙_, subst}
+use mathlib.Core.Bool.{true}
 use Prim.Native.Nat.{ℕ, _+_, _≤_}
 use mathlib.Core.List.{List}
 use lib.ListN.{length, getD}
@@ -7,11 +8,11 @@ use Rattle.mcode.specs.declared.Flow.{Flow}
 use Rattle.mcode.specs.declared.Flow.the-variants.{Fault, Ends, To, Fork}
 use Rattle.depths.specs.declared.Visit.{Visit}
 use Rattle.depths.specs.declared.Visit.the-variants.{Clash, Tail}
-use Rattle.mcode.specs.Depths.{Analysis, mark, NoneFits}
+use Rattle.mcode.specs.Depths.{unmarked as none, isMark, Analysis, mark, NoneFits}
 use Rattle.depths.specs.Lent.{depthsOf}
-use Rattle.depths.specs.Queue.{Visited, Stepped}
+use Rattle.depths.specs.Queue.{AllMarks, Visited, Stepped}
 use Rattle.depths.proofs.Theory.{Real, Moved, in-queue, headed, queued, turn-fault, turn-ends, turn-to, turn-fork-clash, turn-fork-first, turn-fork}
-use Rattle.depths.proofs.Marks.{real-flow}
+use Rattle.depths.proofs.Marks.{Packed, packed-flow, real-flow, visited-marks, turning}
 use native.Mathlib.Omega.{arith}
 use borrow.Author.Needs.{needs}
 use Rattle.depths.proofs.expand.Statement.{statement}
@@ -21,8 +22,15 @@ use Rattle.depths.proofs.expand.Tie as tie
 abbrev A-of : tie.Start → Analysis
 A-of s = depthsOf (s .args .image .now) (s .args .count) (s .args .procs .now) (s .args .tables .now) (s .args .m)
 
-real-of : (s : tie.Start) (p d : ℕ) → Real 255 (A-of s .flow p d)
+real-of : (s : tie.Start) (p d : ℕ) → Real none (A-of s .flow p d)
 real-of s = real-flow (s .args .image .now) (s .args .count) (s .args .procs .now) (s .args .tables .now) (s .args .m) (s .pre .0 .sound) (s .pre .0 .placed)
+
+-- the mark of the position at h, which is marked
+marked-at : (s : tie.Start) → isMark (s .args .d) ≡ true
+marked-at s =
+    let e = s .pre .1 .0 .2 in
+    subst (λ (k : ℕ). isMark k ≡ true) e
+    (s .pre .1 .0 .3 (s .args .p) (subst (λ (p : ℕ). getD (s .args .map .now) p none ≡ none → ⊥) (s .pre .1 .0 .1) (s .pre .1 .1 .marked (s .args .h) (s .pre .1 .0 .0))))
 
 abbrev start : tie.After-flow-at → tie.Start
 start w = w .before .before .before .before
@@ -48,30 +56,45 @@ module _ (w : tie.After-flow-at) where
   abbrev t₀ : ℕ
   t₀ = start w .args .t
 
+  -- the marks that the flow asks are encodings, and so the map stays one of them
+  packed : (f : Flow) → w .flow-at .result ≡ f → Packed f
+  packed f e =
+      let a = start w .args in
+      subst Packed (sym (w .flow-at .ensures) ∙ e) (packed-flow (a .image .now) (a .count) (a .procs .now) (a .tables .now) (a .m) (start w .pre .0 .sound) (start w .pre .0 .placed) (a .p) (a .d))
+
+  to-marks : (q d : ℕ) → w .flow-at .result ≡ To q d → (t : ℕ) (m′ w′ : List ℕ) → Visited none m₀ w₀ t₀ q d (Tail t) m′ w′ → AllMarks m′
+  to-marks q d e t m′ w′ D = visited-marks m₀ w₀ t₀ q d t m′ w′ D (packed (To q d) e) (start w .pre .1 .0 .3)
+
+  fork-marks : (q d r g : ℕ) → w .flow-at .result ≡ Fork q d r g → (s : ℕ) (m₁ w₁ : List ℕ) → Visited none m₀ w₀ t₀ q d (Tail s) m₁ w₁
+      → (t : ℕ) (m′ w′ : List ℕ) → Visited none m₁ w₁ s r g (Tail t) m′ w′ → AllMarks m′
+  fork-marks q d r g e s m₁ w₁ D t m′ w′ E =
+      let (x, y) = packed (Fork q d r g) e in
+      visited-marks m₁ w₁ s r g t m′ w′ E y (visited-marks m₀ w₀ t₀ q d s m₁ w₁ D x (start w .pre .1 .0 .3))
+
   fault : w .flow-at .result ≡ Fault → NoneFits A
   fault e = turn-fault A (real-of (start w)) m₀ w₀ h₀ t₀ (start w .pre .1 .1) (start w .pre .1 .0 .0) (flow-is w Fault e)
 
   ends : w .flow-at .result ≡ Ends → Stepped A (h₀ + 1) m₀ (Tail t₀) m₀ w₀
   ends e = turn-ends A (real-of (start w)) m₀ w₀ h₀ t₀ (start w .pre .1 .1) (start w .pre .1 .0 .0) (flow-is w Ends e)
 
-  to : (q d : ℕ) → w .flow-at .result ≡ To q d → (v : Visit) (m′ w′ : List ℕ) → Visited 255 m₀ w₀ t₀ q d v m′ w′ → Stepped A (h₀ + 1) m₀ v m′ w′
+  to : (q d : ℕ) → w .flow-at .result ≡ To q d → (v : Visit) (m′ w′ : List ℕ) → Visited none m₀ w₀ t₀ q d v m′ w′ → Stepped A (h₀ + 1) m₀ v m′ w′
   to q d e = turn-to A (real-of (start w)) m₀ w₀ h₀ t₀ (start w .pre .1 .1) (start w .pre .1 .0 .0) q d (flow-is w (To q d) e)
 
   module _ (q d r g : ℕ) (e : w .flow-at .result ≡ Fork q d r g) where
-    fork-clash : (m′ w′ : List ℕ) → Visited 255 m₀ w₀ t₀ q d Clash m′ w′ → NoneFits A
+    fork-clash : (m′ w′ : List ℕ) → Visited none m₀ w₀ t₀ q d Clash m′ w′ → NoneFits A
     fork-clash = turn-fork-clash A (real-of (start w)) m₀ w₀ h₀ t₀ (start w .pre .1 .1) (start w .pre .1 .0 .0) q d r g (flow-is w (Fork q d r g) e)
 
-    fork-first : (s : ℕ) (m₁ w₁ : List ℕ) → Visited 255 m₀ w₀ t₀ q d (Tail s) m₁ w₁ → Moved A m₀ w₀ h₀ t₀ m₁ w₁ s
+    fork-first : (s : ℕ) (m₁ w₁ : List ℕ) → Visited none m₀ w₀ t₀ q d (Tail s) m₁ w₁ → Moved A m₀ w₀ h₀ t₀ m₁ w₁ s
     fork-first s m₁ w₁ D = turn-fork-first A (real-of (start w)) m₀ w₀ h₀ t₀ (start w .pre .1 .1) (start w .pre .1 .0 .0) q d r g (flow-is w (Fork q d r g) e) s m₁ w₁ D .0
 
-    fork : (s : ℕ) (m₁ w₁ : List ℕ) → Visited 255 m₀ w₀ t₀ q d (Tail s) m₁ w₁ → (v : Visit) (m′ w′ : List ℕ) → Visited 255 m₁ w₁ s r g v m′ w′ → Stepped A (h₀ + 1) m₀ v m′ w′
+    fork : (s : ℕ) (m₁ w₁ : List ℕ) → Visited none m₀ w₀ t₀ q d (Tail s) m₁ w₁ → (v : Visit) (m′ w′ : List ℕ) → Visited none m₁ w₁ s r g v m′ w′ → Stepped A (h₀ + 1) m₀ v m′ w′
     fork = turn-fork A (real-of (start w)) m₀ w₀ h₀ t₀ (start w .pre .1 .1) (start w .pre .1 .0 .0) q d r g (flow-is w (Fork q d r g) e)
 
 flow-at-requires : tie.Need-flow-at-requires
 flow-at-requires c κs =
     let s = (c .before .before .before) in
     let l = in-queue (A-of s) (s .args .map .now) (s .args .work .now) (s .args .h) (s .args .t) (s .pre .1 .1) (s .pre .1 .0 .0) .1 in
-    (omega (arith, l, s .pre .1 .0 .1, s .pre .1 .1 .sized), s .pre .0)
+    ((omega (arith, l, s .pre .1 .0 .1, s .pre .1 .1 .sized), marked-at s), s .pre .0)
 
 enum-told : tie.Need-enum-told
 enum-told c = search needs
@@ -117,10 +140,12 @@ same-length-2 c = search needs
 
 returns : tie.Need-returns
 returns c =
-    let v = c .before .before .before .before .before .v .given in
-    headed (A-of ((c .before .before .before .before .before .before .before .before .before .before .before .before .before .before .before .before .before .before .before .before .before))) _ (c .before .before .before .before .before .before .before .before .before .before .before .before .before .before .before .before .before .before .before .before .before .args .map .now) (c .before .before .before .before .before .before .before .before .before .before .before .enqueue .last .0) (c .before .before .before .before .before .before .before .before .before .before .before .enqueue .last .1 .0) (v .0 .0)
-    (to ((c .before .before .before .before .before .before .before .before .before .before .before .before .before .before .before .before .before)) _ _ (c .before .before .before .before .before .before .before .before .before .before .before .before .before .before .before .f .given .1) (Tail (v .0 .0)) (c .before .before .before .before .before .before .before .before .before .before .before .enqueue .last .0) (c .before .before .before .before .before .before .before .before .before .before .before .enqueue .last .1 .0) (rw (v .1) at (c .before .before .before .before .before .before .before .before .before .before .before .enqueue .ensures)))
-    (c .head2 .result) (c .head2 .ensures)
+    let v = c .before .before .before .before .before .v .given in (
+      headed (A-of ((c .before .before .before .before .before .before .before .before .before .before .before .before .before .before .before .before .before .before .before .before .before))) _ (c .before .before .before .before .before .before .before .before .before .before .before .before .before .before .before .before .before .before .before .before .before .args .map .now) (c .before .before .before .before .before .before .before .before .before .before .before .enqueue .last .0) (c .before .before .before .before .before .before .before .before .before .before .before .enqueue .last .1 .0) (v .0 .0)
+          (to ((c .before .before .before .before .before .before .before .before .before .before .before .before .before .before .before .before .before)) _ _ (c .before .before .before .before .before .before .before .before .before .before .before .before .before .before .before .f .given .1) (Tail (v .0 .0)) (c .before .before .before .before .before .before .before .before .before .before .before .enqueue .last .0) (c .before .before .before .before .before .before .before .before .before .before .before .enqueue .last .1 .0) (rw (v .1) at (c .before .before .before .before .before .before .before .before .before .before .before .enqueue .ensures)))
+          (c .head2 .result) (c .head2 .ensures),
+      turning (c .head2 .result) _ (to-marks ((c .before .before .before .before .before .before .before .before .before .before .before .before .before .before .before .before .before)) _ _ (c .before .before .before .before .before .before .before .before .before .before .before .before .before .before .before .f .given .1) (v .0 .0) (c .before .before .before .before .before .before .before .before .before .before .before .enqueue .last .0) (c .before .before .before .before .before .before .before .before .before .before .before .enqueue .last .1 .0) (rw (v .1) at (c .before .before .before .before .before .before .before .before .before .before .before .enqueue .ensures))),
+    )
 
 enum-known-f-2 : tie.Need-enum-known-f-2
 enum-known-f-2 c = search needs
@@ -158,7 +183,7 @@ head-requires-3 c κs =
     (Tail (u .0 .0)) (c .before .before .before .before .before .before .before .before .before .enqueue3 .last .0) (c .before .before .before .before .before .before .before .before .before .enqueue3 .last .1 .0) (rw (u .1) at (c .before .before .before .before .before .before .before .before .before .enqueue3 .ensures)) .0)
 
 returns-2 : tie.Need-returns-2
-returns-2 c = fault ((c .before .before)) (c .enum-told .given .1)
+returns-2 c = (fault ((c .before .before)) (c .enum-told .given .1), tt)
 
 same-length-3 : tie.Need-same-length-3
 same-length-3 c = search needs
@@ -167,7 +192,7 @@ same-length-4 : tie.Need-same-length-4
 same-length-4 c = search needs
 
 returns-3 : tie.Need-returns-3
-returns-3 c = headed (A-of ((c .before .before .before .before .before .before .before .before .before))) _ (c .before .before .before .before .before .before .before .before .before .args .map .now) (c .before .before .before .before .before .before .before .before .before .args .map .now) (c .before .before .before .before .before .before .before .before .before .args .work .now) (c .before .before .before .before .before .before .before .before .before .args .t) (ends ((c .before .before .before .before .before)) (c .before .before .before .enum-told2 .given .1)) (c .head .result) (c .head .ensures)
+returns-3 c = (headed (A-of ((c .before .before .before .before .before .before .before .before .before))) _ (c .before .before .before .before .before .before .before .before .before .args .map .now) (c .before .before .before .before .before .before .before .before .before .args .map .now) (c .before .before .before .before .before .before .before .before .before .args .work .now) (c .before .before .before .before .before .before .before .before .before .args .t) (ends ((c .before .before .before .before .before)) (c .before .before .before .enum-told2 .given .1)) (c .head .result) (c .head .ensures), turning (c .head .result) _ (c .before .before .before .before .before .before .before .before .before .pre .1 .0 .3))
 
 same-length-5 : tie.Need-same-length-5
 same-length-5 c = search needs
@@ -176,7 +201,7 @@ same-length-6 : tie.Need-same-length-6
 same-length-6 c = search needs
 
 returns-4 : tie.Need-returns-4
-returns-4 c = to ((c .before .before .before .before .before .before .before .before .before .before .before .before)) _ _ (c .before .before .before .before .before .before .before .before .before .before .f .given .1) Clash (c .before .before .before .before .before .before .enqueue .last .0) (c .before .before .before .before .before .before .enqueue .last .1 .0) (rw (c .enum-told3 .given .1) at (c .before .before .before .before .before .before .enqueue .ensures))
+returns-4 c = (to ((c .before .before .before .before .before .before .before .before .before .before .before .before)) _ _ (c .before .before .before .before .before .before .before .before .before .before .f .given .1) Clash (c .before .before .before .before .before .before .enqueue .last .0) (c .before .before .before .before .before .before .enqueue .last .1 .0) (rw (c .enum-told3 .given .1) at (c .before .before .before .before .before .before .enqueue .ensures)), tt)
 
 same-length-7 : tie.Need-same-length-7
 same-length-7 c = search needs
@@ -194,11 +219,14 @@ returns-5 c =
     let S = to ((c .before .before .before .before .before .before .before .before .before .before .before .before .before .before)) _ _ (c .before .before .before .before .before .before .before .before .before .before .before .before .f .given .1) (Tail (v .0 .0)) (c .before .before .before .before .before .before .before .before .enqueue .last .0) w′ D in
     let e : a .t ≡ a .h + 1 = omega (arith, c .before .before .before .before .before .before .before .before .before .before .before .before .before .before .before .before .before .before .pre .1 .0 .0, c .if1 .left) in
     let room : v .0 .0 ≤ length (a .work .now) = omega (arith, S .0 .room, c .before .before .before .before .before .before .before .before .enqueue .kept .1 .0) in (
-      S .0,
-      S .1,
-      λ l.
-          subst (λ (k : ℕ). (getD w′ k 0 ≡ c .before .before .before .before .before .before .before .before .before .before .before .before .f .given .0 .0) × (mark A (c .before .before .before .before .before .before .before .before .enqueue .last .0) (c .before .before .before .before .before .before .before .before .before .before .before .before .f .given .0 .0) ≡ c .before .before .before .before .before .before .before .before .before .before .before .before .f .given .0 .1 .0)) e
-          (queued A (a .map .now) (a .work .now) (a .t) (c .before .before .before .before .before .before .before .before .before .before .before .before .f .given .0 .0) (c .before .before .before .before .before .before .before .before .before .before .before .before .f .given .0 .1 .0) (v .0 .0) (c .before .before .before .before .before .before .before .before .enqueue .last .0) w′ D room (omega (arith, l, e))),
+      (
+        S .0,
+        S .1,
+        λ l.
+            subst (λ (k : ℕ). (getD w′ k 0 ≡ c .before .before .before .before .before .before .before .before .before .before .before .before .f .given .0 .0) × (mark A (c .before .before .before .before .before .before .before .before .enqueue .last .0) (c .before .before .before .before .before .before .before .before .before .before .before .before .f .given .0 .0) ≡ c .before .before .before .before .before .before .before .before .before .before .before .before .f .given .0 .1 .0)) e
+            (queued A (a .map .now) (a .work .now) (a .t) (c .before .before .before .before .before .before .before .before .before .before .before .before .f .given .0 .0) (c .before .before .before .before .before .before .before .before .before .before .before .before .f .given .0 .1 .0) (v .0 .0) (c .before .before .before .before .before .before .before .before .enqueue .last .0) w′ D room (omega (arith, l, e))),
+      ),
+      to-marks ((c .before .before .before .before .before .before .before .before .before .before .before .before .before .before)) _ _ (c .before .before .before .before .before .before .before .before .before .before .before .before .f .given .1) (v .0 .0) (c .before .before .before .before .before .before .before .before .enqueue .last .0) w′ D,
     )
 
 same-length-9 : tie.Need-same-length-9
@@ -208,7 +236,7 @@ same-length-10 : tie.Need-same-length-10
 same-length-10 c = search needs
 
 returns-6 : tie.Need-returns-6
-returns-6 c = fork-clash ((c .before .before .before .before .before .before .before .before .before .before .before .before)) _ _ _ _ (c .before .before .before .before .before .before .before .before .before .before .f2 .given .1) (c .before .before .before .before .before .before .enqueue2 .last .0) (c .before .before .before .before .before .before .enqueue2 .last .1 .0) (rw (c .enum-told4 .given .1) at (c .before .before .before .before .before .before .enqueue2 .ensures))
+returns-6 c = (fork-clash ((c .before .before .before .before .before .before .before .before .before .before .before .before)) _ _ _ _ (c .before .before .before .before .before .before .before .before .before .before .f2 .given .1) (c .before .before .before .before .before .before .enqueue2 .last .0) (c .before .before .before .before .before .before .enqueue2 .last .1 .0) (rw (c .enum-told4 .given .1) at (c .before .before .before .before .before .before .enqueue2 .ensures)), tt)
 
 same-length-11 : tie.Need-same-length-11
 same-length-11 c = search needs
@@ -218,9 +246,11 @@ same-length-12 c = search needs
 
 returns-7 : tie.Need-returns-7
 returns-7 c =
-    let v = c .before .before .before .before .before .before .before .before .before .before .v2 .given in
-    fork ((c .before .before .before .before .before .before .before .before .before .before .before .before .before .before .before .before .before .before .before .before .before .before)) _ _ _ _ (c .before .before .before .before .before .before .before .before .before .before .before .before .before .before .before .before .before .before .before .before .f2 .given .1) (v .0 .0) (c .before .before .before .before .before .before .before .before .before .before .before .before .before .before .before .before .enqueue2 .last .0) (c .before .before .before .before .before .before .before .before .before .before .before .before .before .before .before .before .enqueue2 .last .1 .0) (rw (v .1) at (c .before .before .before .before .before .before .before .before .before .before .before .before .before .before .before .before .enqueue2 .ensures))
-    Clash (c .before .before .before .before .before .before .enqueue3 .last .0) (c .before .before .before .before .before .before .enqueue3 .last .1 .0) (rw (c .enum-told5 .given .1) at (c .before .before .before .before .before .before .enqueue3 .ensures))
+    let v = c .before .before .before .before .before .before .before .before .before .before .v2 .given in (
+      fork ((c .before .before .before .before .before .before .before .before .before .before .before .before .before .before .before .before .before .before .before .before .before .before)) _ _ _ _ (c .before .before .before .before .before .before .before .before .before .before .before .before .before .before .before .before .before .before .before .before .f2 .given .1) (v .0 .0) (c .before .before .before .before .before .before .before .before .before .before .before .before .before .before .before .before .enqueue2 .last .0) (c .before .before .before .before .before .before .before .before .before .before .before .before .before .before .before .before .enqueue2 .last .1 .0) (rw (v .1) at (c .before .before .before .before .before .before .before .before .before .before .before .before .before .before .before .before .enqueue2 .ensures))
+          Clash (c .before .before .before .before .before .before .enqueue3 .last .0) (c .before .before .before .before .before .before .enqueue3 .last .1 .0) (rw (c .enum-told5 .given .1) at (c .before .before .before .before .before .before .enqueue3 .ensures)),
+      tt,
+    )
 
 same-length-13 : tie.Need-same-length-13
 same-length-13 c = search needs
@@ -231,11 +261,14 @@ same-length-14 c = search needs
 returns-8 : tie.Need-returns-8
 returns-8 c =
     let v = c .before .before .before .before .before .before .before .before .before .before .before .before .before .before .v2 .given in
-    let u = c .before .before .before .before .w .given in
-    headed (A-of ((c .before .before .before .before .before .before .before .before .before .before .before .before .before .before .before .before .before .before .before .before .before .before .before .before .before .before .before .before .before .before))) _ (c .before .before .before .before .before .before .before .before .before .before .before .before .before .before .before .before .before .before .before .before .before .before .before .before .before .before .before .before .before .before .args .map .now) (c .before .before .before .before .before .before .before .before .before .before .enqueue3 .last .0) (c .before .before .before .before .before .before .before .before .before .before .enqueue3 .last .1 .0) (u .0 .0)
-    (fork ((c .before .before .before .before .before .before .before .before .before .before .before .before .before .before .before .before .before .before .before .before .before .before .before .before .before .before)) _ _ _ _ (c .before .before .before .before .before .before .before .before .before .before .before .before .before .before .before .before .before .before .before .before .before .before .before .before .f2 .given .1) (v .0 .0) (c .before .before .before .before .before .before .before .before .before .before .before .before .before .before .before .before .before .before .before .before .enqueue2 .last .0) (c .before .before .before .before .before .before .before .before .before .before .before .before .before .before .before .before .before .before .before .before .enqueue2 .last .1 .0) (rw (v .1) at (c .before .before .before .before .before .before .before .before .before .before .before .before .before .before .before .before .before .before .before .before .enqueue2 .ensures))
-    (Tail (u .0 .0)) (c .before .before .before .before .before .before .before .before .before .before .enqueue3 .last .0) (c .before .before .before .before .before .before .before .before .before .before .enqueue3 .last .1 .0) (rw (u .1) at (c .before .before .before .before .before .before .before .before .before .before .enqueue3 .ensures)))
-    (c .head3 .result) (c .head3 .ensures)
+    let u = c .before .before .before .before .w .given in (
+      headed (A-of ((c .before .before .before .before .before .before .before .before .before .before .before .before .before .before .before .before .before .before .before .before .before .before .before .before .before .before .before .before .before .before))) _ (c .before .before .before .before .before .before .before .before .before .before .before .before .before .before .before .before .before .before .before .before .before .before .before .before .before .before .before .before .before .before .args .map .now) (c .before .before .before .before .before .before .before .before .before .before .enqueue3 .last .0) (c .before .before .before .before .before .before .before .before .before .before .enqueue3 .last .1 .0) (u .0 .0)
+          (fork ((c .before .before .before .before .before .before .before .before .before .before .before .before .before .before .before .before .before .before .before .before .before .before .before .before .before .before)) _ _ _ _ (c .before .before .before .before .before .before .before .before .before .before .before .before .before .before .before .before .before .before .before .before .before .before .before .before .f2 .given .1) (v .0 .0) (c .before .before .before .before .before .before .before .before .before .before .before .before .before .before .before .before .before .before .before .before .enqueue2 .last .0) (c .before .before .before .before .before .before .before .before .before .before .before .before .before .before .before .before .before .before .before .before .enqueue2 .last .1 .0) (rw (v .1) at (c .before .before .before .before .before .before .before .before .before .before .before .before .before .before .before .before .before .before .before .before .enqueue2 .ensures))
+          (Tail (u .0 .0)) (c .before .before .before .before .before .before .before .before .before .before .enqueue3 .last .0) (c .before .before .before .before .before .before .before .before .before .before .enqueue3 .last .1 .0) (rw (u .1) at (c .before .before .before .before .before .before .before .before .before .before .enqueue3 .ensures)))
+          (c .head3 .result) (c .head3 .ensures),
+      turning (c .head3 .result) _ (fork-marks ((c .before .before .before .before .before .before .before .before .before .before .before .before .before .before .before .before .before .before .before .before .before .before .before .before .before .before)) _ _ _ _ (c .before .before .before .before .before .before .before .before .before .before .before .before .before .before .before .before .before .before .before .before .before .before .before .before .f2 .given .1) (v .0 .0) (c .before .before .before .before .before .before .before .before .before .before .before .before .before .before .before .before .before .before .before .before .enqueue2 .last .0) (c .before .before .before .before .before .before .before .before .before .before .before .before .before .before .before .before .before .before .before .before .enqueue2 .last .1 .0) (rw (v .1) at (c .before .before .before .before .before .before .before .before .before .before .before .before .before .before .before .before .before .before .before .before .enqueue2 .ensures))
+          (u .0 .0) (c .before .before .before .before .before .before .before .before .before .before .enqueue3 .last .0) (c .before .before .before .before .before .before .before .before .before .before .enqueue3 .last .1 .0) (rw (u .1) at (c .before .before .before .before .before .before .before .before .before .before .enqueue3 .ensures))),
+    )
 
 pub expand-spec : {M : Type 1} → statement M
 expand-spec =

@@ -3,6 +3,7 @@ use mathlib.Core.Path.{ap, _∙_}
 use Prim.Native.Nat.{ℕ}
 use lib.ListN.{replicate}
 use borrow.Author.Needs.{needs}
+use Rattle.mcode.specs.Depths.{unmarked}
 use Rattle.depths.proofs.find.Statement.{statement}
 use Rattle.depths.proofs.find.Tie as tie
 
@@ -10,7 +11,7 @@ blank-requires : tie.Need-blank-requires
 blank-requires c κs = search needs
 
 enter-requires : tie.Need-enter-requires
-enter-requires c κs = (c .before .before .before .before .before .before .before .before .before .pre .0 .sound, (c .before .before .before .before .before .before .before .before .before .pre .0 .placed, (c .before .before .before .before .before .before .before .before .before .pre .1 .1, c .before .before .before .before .blank .ensures ∙ ap (λ (n : ℕ). replicate n 255) (c .before .before .before .before .before .before .before .before .before .pre .1 .0))))
+enter-requires c κs = (c .before .before .before .before .before .before .before .before .before .pre .0 .sound, (c .before .before .before .before .before .before .before .before .before .pre .0 .placed, (c .before .before .before .before .before .before .before .before .before .pre .1 .1, c .before .before .before .before .blank .ensures ∙ ap (λ (n : ℕ). replicate n unmarked) (c .before .before .before .before .before .before .before .before .before .pre .1 .0))))
 
 enum-told : tie.Need-enum-told
 enum-told c = search needs
@@ -28,7 +29,7 @@ same-length-2 : tie.Need-same-length-2
 same-length-2 c = search needs
 
 returns : tie.Need-returns
-returns c = rw (c .enum-told .given .1) at (c .before .before .before .before .before .before .enter .ensures)
+returns c = rw (c .enum-told .given .1) at (c .before .before .before .before .before .before .enter .ensures .0)
 
 same-length-3 : tie.Need-same-length-3
 same-length-3 c = search needs

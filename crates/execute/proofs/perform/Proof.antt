@@ -1,6 +1,6 @@
 use mathlib.Core.Path.{refl, _∙_}
 use Rattle.control.proofs.Laws.{based, anchored-on}
-use Rattle.execute.proofs.Laws.{even-row, in-row, within, listed-in, stacked, past}
+use Rattle.execute.proofs.Laws.{even-row, in-row, within, listed-in, stacked, roomy, past}
 use native.Mathlib.Omega.{arith}
 use borrow.Author.Needs.{needs}
 use Rattle.execute.proofs.perform.Statement.{statement}
@@ -40,7 +40,7 @@ row10-requires : tie.Need-row10-requires
 row10-requires c κs = (c .before .before .before .match .keys11, (listed-in (c .before .before .before .before .before .before .before .before .before .pre .0) 10 (c .before .before .before .match .keys11) refl, (c .before .before .before .before .before .before .before .before .before .pre .0 .controls .ready, ((omega (arith, c .before .before .before .before .before .before .before .before .before .pre .0 .controls .inside), c .before .before .before .before .before .before .before .before .before .pre .1 .0, c .before .before .before .before .before .before .before .before .before .pre .1 .1), (c .before .before .before .before .before .before .before .before .before .pre .0 .mapped, (c .before .before .before .before .before .before .before .before .before .pre .0 .controls .framed, c .before .before .before .before .before .before .before .before .before .pre .0 .anchored))))))
 
 row11-requires : tie.Need-row11-requires
-row11-requires c κs = (c .before .match .keys12, (listed-in (c .before .before .before .before .before .before .before .pre .0) 11 (c .before .match .keys12) refl, stacked (c .before .before .before .before .before .before .before .pre .0)))
+row11-requires c κs = (c .before .before .match .keys12, (listed-in (c .before .before .before .before .before .before .before .before .pre .0) 11 (c .before .before .match .keys12) refl, (stacked (c .before .before .before .before .before .before .before .before .pre .0), (roomy (c .before .before .before .before .before .before .before .before .pre .0), (c .before .before .before .before .before .before .before .before .pre .0 .here, c .before .before .before .before .before .before .before .before .pre .0 .front)))))
 
 row12-requires : tie.Need-row12-requires
 row12-requires c κs = (c .before .match .keys13, (listed-in (c .before .before .before .before .before .before .before .pre .0) 12 (c .before .match .keys13) refl, stacked (c .before .before .before .before .before .before .before .pre .0)))
@@ -117,8 +117,11 @@ same-length-10 c = search needs
 returns-11 : tie.Need-returns-11
 returns-11 c = ((λ lent h. c .before .before .before .before .row10 .ensures .0 lent h ∙ in-row lent _ _ _ _ _ _ 10 (c .before .before .before .before .before .before .before .before .match .keys11) refl), c .before .before .before .before .row10 .ensures .1)
 
+same-length-11 : tie.Need-same-length-11
+same-length-11 c = search needs
+
 returns-12 : tie.Need-returns-12
-returns-12 c = ((λ lent h. c .row11 .ensures .0 lent _ _ _ ∙ in-row lent _ _ _ _ _ _ 11 (c .before .before .match .keys12) refl), anchored-on (c .before .before .before .before .before .before .before .before .pre .0 .anchored) (c .row11 .ensures .1))
+returns-12 c = ((λ lent h. c .before .before .row11 .ensures .0 lent _ _ _ h (c .before .before .before .before .before .before .before .before .before .before .before .pre .0 .anchored) _ _ ∙ in-row lent _ _ _ _ _ _ 11 (c .before .before .before .before .before .match .keys12) refl), anchored-on (c .before .before .before .before .before .before .before .before .before .before .before .pre .0 .anchored) (c .before .before .row11 .ensures .1))
 
 returns-13 : tie.Need-returns-13
 returns-13 c = ((λ lent h. c .row12 .ensures .0 lent _ _ _ ∙ in-row lent _ _ _ _ _ _ 12 (c .before .before .match .keys13) refl), anchored-on (c .before .before .before .before .before .before .before .before .pre .0 .anchored) (c .row12 .ensures .1))
@@ -126,14 +129,14 @@ returns-13 c = ((λ lent h. c .row12 .ensures .0 lent _ _ _ ∙ in-row lent _ _ 
 returns-14 : tie.Need-returns-14
 returns-14 c = ((λ lent h. c .row13 .ensures .0 lent _ _ _ ∙ in-row lent _ _ _ _ _ _ 13 (c .before .before .match .keys14) refl), anchored-on (c .before .before .before .before .before .before .before .before .pre .0 .anchored) (c .row13 .ensures .1))
 
-same-length-11 : tie.Need-same-length-11
-same-length-11 c = search needs
+same-length-12 : tie.Need-same-length-12
+same-length-12 c = search needs
 
 returns-15 : tie.Need-returns-15
 returns-15 c = ((λ lent h. c .before .before .row14 .ensures .0 lent _ h _), c .before .before .row14 .ensures .1)
 
-same-length-12 : tie.Need-same-length-12
-same-length-12 c = search needs
+same-length-13 : tie.Need-same-length-13
+same-length-13 c = search needs
 
 returns-16 : tie.Need-returns-16
 returns-16 c = ((λ lent h. c .before .before .row15 .ensures .0 lent _ _ h _ _ ∙ in-row lent _ _ _ _ _ _ 15 ((omega (arith, past _ 15 (c .before .before .before .before .match .rest)))) refl), c .before .before .row15 .ensures .1)
@@ -179,10 +182,11 @@ perform-spec =
     same-length-9
     same-length-10
     returns-11
+    same-length-11
     returns-12
     returns-13
     returns-14
-    same-length-11
-    returns-15
     same-length-12
+    returns-15
+    same-length-13
     returns-16)

@@ -6,7 +6,7 @@ use Prim.Native.Nat.{ℕ, _-_, _<_}
 use lib.ListN.{length}
 use borrow.Author.Count.{below-more, below-none}
 use borrow.Author.Tests.{not-true, not-false}
-use Rattle.mcode.specs.Depths.{Marked}
+use Rattle.mcode.specs.Depths.{unmarked, Marked}
 use Rattle.mcode.specs.Walk.{walk, wholeAt}
 use Rattle.mcode.proofs.Tests.{inside}
 use Rattle.mcode.proofs.Reached.{walk-reached}
@@ -16,6 +16,9 @@ use native.Mathlib.Omega.{arith}
 use borrow.Author.Needs.{needs}
 use Rattle.walk.proofs.lowest.Statement.{statement}
 use Rattle.walk.proofs.lowest.Tie as tie
+use Rattle.walk.proofs.lowest.Reads as reads
+use Rattle.walk.proofs.lowest.Lts as lts
+use Rattle.walk.proofs.causes.is_whole.Reads as is-whole-reads
 
 abbrev Inv-loop : tie.InvT-loop
 Inv-loop image map count procs m sizes kinds p₀ p = (q : ℕ) → q < p → Marked (walk image m) map q → wholeAt image (counted count procs) m q ≡ true
@@ -25,6 +28,9 @@ abbrev μ-loop : tie.MeasureT-loop
 
 loop-holds : tie.Need-loop-holds Inv-loop μ-loop
 loop-holds c = below-none _
+
+mul-if1 : tie.Need-mul-if1 Inv-loop μ-loop
+mul-if1 c = search needs
 
 shared-slice-read-if1 : tie.Need-shared-slice-read-if1 Inv-loop μ-loop
 shared-slice-read-if1 c = search needs
@@ -44,7 +50,7 @@ returns c =
     let a = c .before .before .before .before .before .before .before .before .args in
     let l = c .before .before .before .before .before .loop in
     let R = walk-reached (a .image .now) (a .m) (a .map .now) (c .before .before .before .before .before .before .before .before .pre .1) in (
-      R (l .p) .0 (λ z. c .before .before .if1 .taken (getD-any (a .map .now) (l .p) 0 255 (c .before .before .before .before .loop-test .taken) ∙ z)),
+      R (l .p) .0 (λ z. c .before .before .if1 .taken (getD-any (a .map .now) (l .p) 0 unmarked (c .before .before .before .before .loop-test .taken) ∙ z)),
       sym (c .before .is-whole .ensures) ∙ not-true (c .before .is-whole .result) (c .if2 .taken),
       λ q i r. l .inv q i (R q .1 r),
     )
@@ -63,7 +69,7 @@ loop-again c =
     (l .p) (l .inv)
     (λ k. ⊎-elim
     (λ w. sym (w .1 .ensures) ∙ not-false (w .1 .result) (w .2 .left))
-    (λ w. absurd (k (getD-any (a .map .now) (l .p) 255 0 (c .before .before .loop-test .taken) ∙ w .left)))
+    (λ w. absurd (k (getD-any (a .map .now) (l .p) unmarked 0 (c .before .before .loop-test .taken) ∙ w .left)))
     (c .if1 .came))
 
 returns-2 : tie.Need-returns-2 Inv-loop μ-loop
@@ -80,6 +86,7 @@ lowest-spec =
     Inv-loop
     μ-loop
     loop-holds
+    mul-if1
     shared-slice-read-if1
     is-whole-requires
     cast-t15

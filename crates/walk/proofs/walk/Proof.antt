@@ -3,6 +3,7 @@ use mathlib.Core.Path.{ap, _∙_}
 use Prim.Native.Nat.{ℕ}
 use lib.ListN.{replicate}
 use borrow.Author.Needs.{needs}
+use Rattle.mcode.specs.Depths.{unmarked}
 use Rattle.walk.proofs.walk.Statement.{statement}
 use Rattle.walk.proofs.walk.Tie as tie
 
@@ -12,7 +13,7 @@ blank-requires c κs = search needs
 enter-requires : tie.Need-enter-requires
 enter-requires c κs =
     let (S, (_, (same, room))) = c .before .before .before .before .before .before .before .before .before .pre in
-    (S, (room, c .before .before .before .before .blank .ensures ∙ ap (λ (n : ℕ). replicate n 255) same))
+    (S, (room, c .before .before .before .before .blank .ensures ∙ ap (λ (n : ℕ). replicate n unmarked) same))
 
 drain-requires : tie.Need-drain-requires
 drain-requires c κs = search needs

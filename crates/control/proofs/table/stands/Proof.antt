@@ -2,7 +2,7 @@
 use mathlib.Core.Path.{refl}
 use Rattle.mcode.specs.Depths.{marked}
 use native.Mathlib.Omega.{arith}
-use borrow.Author.Tests.{lt-ltb, le-ltb}
+use borrow.Author.Tests.{le-leb, lt-ltb, le-ltb}
 use borrow.Author.Needs.{needs}
 use Rattle.control.proofs.table.stands.Statement.{statement}
 use Rattle.control.proofs.table.stands.Tie as tie
@@ -32,15 +32,21 @@ cast-i c = search needs
 add-i : tie.Need-add-i
 add-i c = search needs
 
-byte-in-requires : tie.Need-byte-in-requires
-byte-in-requires c κs = let m = c .before .before .before .before .before .before .pre .0 .marks _ (rw (c .before .before .before .before .count-of .ensures) at (c .before .before .before .if1 .left)) in omega (arith, m, c .before .before .number .ensures, c .number2 .ensures, c .before .if2 .left)
+mul-depth-of : tie.Need-mul-depth-of
+mul-depth-of c = search needs
 
-has-depth-requires : tie.Need-has-depth-requires
-has-depth-requires c κs = search needs
+shared-slice-read-depth-of : tie.Need-shared-slice-read-depth-of
+shared-slice-read-depth-of c = let m = c .before .before .before .before .before .before .before .pre .0 .marks _ (rw (c .before .before .before .before .before .count-of .ensures) at (c .before .before .before .before .if1 .left)) in omega (arith, m, c .before .before .before .number .ensures, c .before .number2 .ensures, c .before .before .if2 .left)
+
+depth-of-requires : tie.Need-depth-of-requires
+depth-of-requires c κs = search needs
+
+cast-result : tie.Need-cast-result
+cast-result c = search needs
 
 returns-3 : tie.Need-returns-3
 unfolding marked
-returns-3 c = rw (← c .before .before .before .before .before .before .count-of .ensures, lt-ltb _ _ (c .before .before .before .before .before .if1 .left), ← c .before .before .before .before .number .ensures, lt-ltb _ _ (c .before .before .before .if2 .left), ← c .before .before .number2 .ensures, ← c .before .byte-in .ensures .0) (c .has-depth .ensures)
+returns-3 c = rw (← c .before .before .before .before .before .before .count-of .ensures, lt-ltb _ _ (c .before .before .before .before .before .if1 .left), ← c .before .before .before .before .number .ensures, lt-ltb _ _ (c .before .before .before .if2 .left), ← c .before .before .number2 .ensures, le-leb _ _ (c .before .before .before .before .before .before .before .before .pre .1), c .depth-of .ensures) refl
 
 pub stands-spec : {M : Type 1} → statement M
 stands-spec =
@@ -54,6 +60,8 @@ stands-spec =
     number-requires-2
     cast-i
     add-i
-    byte-in-requires
-    has-depth-requires
+    mul-depth-of
+    shared-slice-read-depth-of
+    depth-of-requires
+    cast-result
     returns-3)

@@ -8,20 +8,8 @@ use Rattle.control.proofs.transfer.save_process.Tie as tie
 cast-s : tie.Need-cast-s
 cast-s c = search needs
 
-save-words-requires : tie.Need-save-words-requires
-save-words-requires c κs = search needs
-
-cast-store : tie.Need-cast-store
-cast-store c = search needs
-
-add-store : tie.Need-add-store
-add-store c = search needs
-
-mul-store : tie.Need-mul-store
-mul-store c = search needs
-
-slice-write-store : tie.Need-slice-write-store
-slice-write-store c = search needs
+save-stack-requires : tie.Need-save-stack-requires
+save-stack-requires c κs = search needs
 
 cast-p : tie.Need-cast-p
 cast-p c = search needs
@@ -51,31 +39,27 @@ cast-write-record-3 : tie.Need-cast-write-record-3
 cast-write-record-3 c = search needs
 
 write-record-requires : tie.Need-write-record-requires
-write-record-requires c κs = simp length-set (omega (arith, c .before .before .before .before .before .before .save-words .kept, c .before .before .before .before .before .before .before .before .before .before .pre))
+write-record-requires c κs = omega (arith, c .before .before .before .before .before .before .save-stack .kept, c .before .before .before .before .before .before .before .before .before .before .pre)
 
-mul-store-2 : tie.Need-mul-store-2
-mul-store-2 c = search needs
+mul-store : tie.Need-mul-store
+mul-store c = search needs
 
-slice-write-store-2 : tie.Need-slice-write-store-2
-slice-write-store-2 c = omega (arith, simp length-set at (c .before .before .write-record .kept .0), c .before .before .before .before .before .before .before .before .before .save-words .kept, c .before .before .before .before .before .before .before .before .before .before .before .before .before .pre)
+slice-write-store : tie.Need-slice-write-store
+slice-write-store c = omega (arith, c .before .before .write-record .kept .0, c .before .before .before .before .before .before .before .before .before .save-stack .kept, c .before .before .before .before .before .before .before .before .before .before .before .before .before .pre)
 
 same-length : tie.Need-same-length
-same-length c = simp length-set (omega (arith, simp length-set at (c .before .before .write-record .kept .0), c .before .before .before .before .before .before .before .before .before .save-words .kept))
+same-length c = simp length-set (omega (arith, c .before .before .write-record .kept .0, c .before .before .before .before .before .before .before .before .before .save-stack .kept))
 
 returns : tie.Need-returns
 unfolding savedStore
-returns c = rw (← c .before .before .before .before .before .before .before .before .before .save-words .ensures, ← c .before .before .write-record .ensures)
+returns c = rw (← c .before .before .before .before .before .before .before .before .before .save-stack .ensures, ← c .before .before .write-record .ensures)
 
 pub save-process-spec : {M : Type 1} → statement M
 save-process-spec =
     tie.close
     (tie.spec
     cast-s
-    save-words-requires
-    cast-store
-    add-store
-    mul-store
-    slice-write-store
+    save-stack-requires
     cast-p
     cast-h
     sub-write-record
@@ -86,7 +70,7 @@ save-process-spec =
     add-write-record-3
     cast-write-record-3
     write-record-requires
-    mul-store-2
-    slice-write-store-2
+    mul-store
+    slice-write-store
     same-length
     returns)

@@ -11,9 +11,17 @@ use Rattle.mcode.proofs.Tests.{at-all}
 use Rattle.depths.specs.Test.{entryFits}
 use Rattle.depths.proofs.Bools.{one-fails}
 use native.Mathlib.Omega.{arith}
+use Rattle.depths.proofs.fits.entries_fit.Tie as tie
+use Rattle.mcode.specs.Depths.{unmarked as none}
 use borrow.Author.Needs.{needs}
 use Rattle.depths.proofs.fits.entries_fit.Statement.{statement}
 use Rattle.depths.proofs.fits.entries_fit.Tie as tie
+use Rattle.depths.proofs.fits.entries_fit.Reads as reads
+use Rattle.depths.proofs.fits.entries_fit.Lts as lts
+use Rattle.depths.proofs.fits.has_mark.Reads as has-mark-reads
+use Rattle.depths.proofs.rules.entry_mark.Reads as entry-mark-reads
+use Rattle.depths.proofs.rules.entry_of.Reads as entry-of-reads
+use Rattle.depths.proofs.rules.proc_count.Reads as proc-count-reads
 
 abbrev Inv-loop : tie.InvT-loop
 Inv-loop image map m n i₀ i = (i ≤ n) × ((j : ℕ) → j < i → entryFits image m map j ≡ true)
@@ -42,7 +50,7 @@ has-mark-requires c κs = search needs
 returns : tie.Need-returns Inv-loop μ-loop
 returns c =
     let a = c .before .before .before .before .before .before .before .before .before .args in
-    let e = ap₂ (λ (q d : ℕ). eqb (getD (a .map .now) q 255) d) (sym (c .before .before .before .entry-of .ensures)) (sym (c .before .before .entry-mark .ensures)) ∙ sym (c .before .has-mark .ensures) in
+    let e = ap₂ (λ (q d : ℕ). eqb (getD (a .map .now) q none) d) (sym (c .before .before .before .entry-of .ensures)) (sym (c .before .before .entry-mark .ensures)) ∙ sym (c .before .has-mark .ensures) in
     sym (one-fails (procCount (a .m)) (entryFits (a .image .now) (a .m) (a .map .now)) (c .before .before .before .before .before .loop .i)
     (omega (arith, c .before .before .before .before .before .before .proc-count .ensures .0, c .before .before .before .before .loop-test .taken)) (e ∙ not-true (c .before .has-mark .result) (c .if1 .taken)))
 
@@ -55,7 +63,7 @@ loop-less c = search needs
 loop-again : tie.Need-loop-again Inv-loop μ-loop
 loop-again c =
     let a = c .before .before .before .before .before .before .before .before .before .args in
-    let e = ap₂ (λ (q d : ℕ). eqb (getD (a .map .now) q 255) d) (sym (c .before .before .before .entry-of .ensures)) (sym (c .before .before .entry-mark .ensures)) ∙ sym (c .before .has-mark .ensures) in (
+    let e = ap₂ (λ (q d : ℕ). eqb (getD (a .map .now) q none) d) (sym (c .before .before .before .entry-of .ensures)) (sym (c .before .before .entry-mark .ensures)) ∙ sym (c .before .has-mark .ensures) in (
       omega arith,
       below-more (λ (j : ℕ). entryFits (a .image .now) (a .m) (a .map .now) j ≡ true) (c .before .before .before .before .before .loop .i) (c .before .before .before .before .before .loop .inv .1) (e ∙ not-false (c .before .has-mark .result) (c .if1 .left)),
     )

@@ -19,6 +19,9 @@ add-e c = omega (arith, c .before .before .before .pre .0 .0 .within, c .before 
 unmarked-requires : tie.Need-unmarked-requires
 unmarked-requires c κs = omega (arith, c .before .before .before .pre .0 .0 .within, c .before .before .before .pre .1 .0)
 
+mul-part-fits : tie.Need-mul-part-fits
+mul-part-fits c = omega (arith, c .before .before .before .before .before .pre .0 .0 .within, c .before .before .before .before .before .pre .1 .1)
+
 sub-part-fits : tie.Need-sub-part-fits
 sub-part-fits c = search needs
 
@@ -48,6 +51,7 @@ module-fits-spec =
     cast-e
     add-e
     unmarked-requires
+    mul-part-fits
     sub-part-fits
     part-part-fits-start
     part-part-fits-end

@@ -10,9 +10,13 @@ use Rattle.depths.specs.Test.{clear}
 use Rattle.depths.proofs.Bools.{one-fails}
 use native.Mathlib.Omega.{arith}
 use borrow.Author.Tests.{ne-eqb, lt-ltb, le-ltb, eq-eqb}
+use Rattle.depths.proofs.fits.unmarked.Tie as tie
+use Rattle.mcode.specs.Depths.{unmarked as none}
 use borrow.Author.Needs.{needs}
 use Rattle.depths.proofs.fits.unmarked.Statement.{statement}
 use Rattle.depths.proofs.fits.unmarked.Tie as tie
+use Rattle.depths.proofs.fits.unmarked.Reads as reads
+use Rattle.depths.proofs.fits.unmarked.Lts as lts
 
 abbrev Inv-loop : tie.InvT-loop
 Inv-loop map from to i₀ i = (from ≤ i) × ((j : ℕ) → j < i → clear map from j ≡ true)
@@ -22,6 +26,9 @@ abbrev μ-loop : tie.MeasureT-loop
 
 loop-holds : tie.Need-loop-holds Inv-loop μ-loop
 loop-holds c = (omega arith, λ j l. first-or _ _ (lt-ltb _ _ l))
+
+mul-if1 : tie.Need-mul-if1 Inv-loop μ-loop
+mul-if1 c = search needs
 
 shared-slice-read-if1 : tie.Need-shared-slice-read-if1 Inv-loop μ-loop
 shared-slice-read-if1 c = search needs
@@ -42,7 +49,7 @@ loop-again c =
     let a = c .before .before .before .before .args in (
       omega arith,
       below-more (λ (j : ℕ). clear (a .map .now) (a .from) j ≡ true) (c .before .before .before .loop .i) (c .before .before .before .loop .inv .1)
-          (second-or (ltb (c .before .before .before .loop .i) (a .from)) (eqb (getD (a .map .now) (c .before .before .before .loop .i) 0) 255) (eq-eqb _ _ (c .if1 .left))),
+          (second-or (ltb (c .before .before .before .loop .i) (a .from)) (eqb (getD (a .map .now) (c .before .before .before .loop .i) 0) none) (eq-eqb _ _ (c .if1 .left))),
     )
 
 returns-2 : tie.Need-returns-2 Inv-loop μ-loop
@@ -55,6 +62,7 @@ unmarked-spec =
     Inv-loop
     μ-loop
     loop-holds
+    mul-if1
     shared-slice-read-if1
     returns
     add-i

@@ -6,21 +6,24 @@ use borrow.Author.Tests.{lt-ltb, le-ltb}
 use borrow.Author.Needs.{needs}
 use Rattle.depths.proofs.rules.call_in.Statement.{statement}
 use Rattle.depths.proofs.rules.call_in.Tie as tie
+use Rattle.depths.proofs.rules.call_in.Reads as reads
+use Rattle.depths.proofs.rules.call_in.Lts as lts
+use Rattle.depths.proofs.rules.call.Reads as call-reads
 
-mul-t12 : tie.Need-mul-t12
-mul-t12 c = search needs
+mul-t11 : tie.Need-mul-t11
+mul-t11 c = search needs
 
-element-copy-out-t15 : tie.Need-element-copy-out-t15
-element-copy-out-t15 c = search needs
+element-copy-out-t14 : tie.Need-element-copy-out-t14
+element-copy-out-t14 c = search needs
 
-mul-t16 : tie.Need-mul-t16
-mul-t16 c = search needs
+mul-t15 : tie.Need-mul-t15
+mul-t15 c = search needs
 
-element-copy-out-t19 : tie.Need-element-copy-out-t19
-element-copy-out-t19 c = search needs
+element-copy-out-t18 : tie.Need-element-copy-out-t18
+element-copy-out-t18 c = search needs
 
 call-requires : tie.Need-call-requires
-call-requires c κs = ((c .before .before .before .before .pre .0 .0, c .before .before .before .before .pre .1 .near _ (c .before .before .if1 .taken)), (c .before .before .before .before .pre .0 .1, c .before .before .before .before .pre .0 .2, c .before .before .before .before .pre .1 .results _ (c .before .before .if1 .taken) _))
+call-requires c κs = ((c .before .before .before .before .pre .0, c .before .before .before .before .pre .1 .near _ (c .before .before .if1 .taken)), c .before .before .before .before .pre .1 .results _ (c .before .before .if1 .taken) _)
 
 returns : tie.Need-returns
 unfolding callsIn
@@ -34,10 +37,10 @@ pub call-in-spec : {M : Type 1} → statement M
 call-in-spec =
     tie.close
     (tie.spec
-    mul-t12
-    element-copy-out-t15
-    mul-t16
-    element-copy-out-t19
+    mul-t11
+    element-copy-out-t14
+    mul-t15
+    element-copy-out-t18
     call-requires
     returns
     returns-2)

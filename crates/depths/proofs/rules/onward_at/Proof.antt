@@ -10,9 +10,16 @@ use Rattle.mcode.specs.declared.Flow.the-variants.{Fault, To}
 use Rattle.mcode.proofs.Marks.{passed-own}
 use Rattle.depths.specs.Lent.{lightOf}
 use Rattle.depths.proofs.Flows.{onward-names, onward-far, onward-near}
+use Rattle.depths.proofs.rules.onward_at.Tie as tie
 use borrow.Author.Needs.{needs}
 use Rattle.depths.proofs.rules.onward_at.Statement.{statement}
 use Rattle.depths.proofs.rules.onward_at.Tie as tie
+use Rattle.depths.proofs.rules.onward_at.Reads as reads
+use Rattle.depths.proofs.rules.onward_at.Lts as lts
+use Rattle.depths.proofs.rules.call.Reads as call-reads
+use Rattle.depths.proofs.rules.call_in.Reads as call-in-reads
+use Rattle.depths.proofs.rules.callee_of.Reads as callee-of-reads
+use Rattle.depths.proofs.rules.wide.Reads as wide-reads
 
 wide-requires : tie.Need-wide-requires
 wide-requires c κs = search needs
@@ -41,7 +48,7 @@ wide-requires-3 : tie.Need-wide-requires-3
 wide-requires-3 c κs = search needs
 
 call-in-requires : tie.Need-call-in-requires
-call-in-requires c κs = ((omega (arith, c .wide3 .ensures .1), c .before .before .before .before .before .pre .1 .0 .0, c .before .before .before .before .before .pre .1 .0 .1), c .before .before .before .before .before .pre .1 .1)
+call-in-requires c κs = (omega (arith, c .wide3 .ensures .1), c .before .before .before .before .before .pre .1)
 
 returns-3 : tie.Need-returns-3
 returns-3 c =
@@ -55,7 +62,7 @@ callee-of-requires : tie.Need-callee-of-requires
 callee-of-requires c κs = search needs
 
 call-requires : tie.Need-call-requires
-call-requires c κs = ((omega (arith, c .callee-of .ensures .1), c .before .before .before .before .pre .1 .0 .2 .near), (c .before .before .before .before .pre .1 .0 .0, c .before .before .before .before .pre .1 .0 .1, c .before .before .before .before .pre .1 .0 .2 .results _))
+call-requires c κs = ((omega (arith, c .callee-of .ensures .1), c .before .before .before .before .pre .0 .3 .near), c .before .before .before .before .pre .0 .3 .results _)
 
 returns-4 : tie.Need-returns-4
 returns-4 c =

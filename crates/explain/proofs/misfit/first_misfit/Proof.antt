@@ -38,6 +38,9 @@ cast-e c = omega (arith, c .before .before .before .before .before .before .befo
 add-e : tie.Need-add-e Inv-loop μ-loop
 add-e c = omega (arith, c .before .before .before .before .before .before .before .before .before .pre .0 .laid .behind (c .before .before .before .loop .k) (c .before .before .loop-test .taken), c .before .before .before .before .before .before .before .before .before .pre .0 .brief)
 
+mul-module-misfit : tie.Need-mul-module-misfit Inv-loop μ-loop
+mul-module-misfit c = omega (arith, c .before .before .before .before .before .before .before .before .before .pre .0 .laid .behind (c .before .before .before .loop .k) (c .before .before .loop-test .taken), c .before .before .before .before .before .before .before .before .before .pre .0 .brief)
+
 sub-module-misfit : tie.Need-sub-module-misfit Inv-loop μ-loop
 sub-module-misfit c = omega arith
 
@@ -111,6 +114,7 @@ first-misfit-spec =
     element-copy-out-m
     cast-e
     add-e
+    mul-module-misfit
     sub-module-misfit
     part-module-misfit-start
     part-module-misfit-end

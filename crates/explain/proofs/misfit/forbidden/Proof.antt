@@ -6,6 +6,12 @@ use Rattle.explain.specs.Reason.{namedParams}
 use borrow.Author.Needs.{needs}
 use Rattle.explain.proofs.misfit.forbidden.Statement.{statement}
 use Rattle.explain.proofs.misfit.forbidden.Tie as tie
+use Rattle.explain.proofs.misfit.forbidden.Reads as reads
+use Rattle.explain.proofs.misfit.forbidden.Lts as lts
+use Rattle.depths.proofs.rules.byte_at.Reads as byte-at-reads
+use Rattle.explain.proofs.misfit.params_at.Reads as params-at-reads
+use Rattle.marks.proofs.depth_of.Reads as depth-of-reads
+use Rattle.mcode.proofs.opcode.taken_of.Reads as taken-of-reads
 
 add-op : tie.Need-add-op
 add-op c = search needs
@@ -25,8 +31,11 @@ depth-of-requires c κs = search needs
 taken-of-requires : tie.Need-taken-of-requires
 taken-of-requires c κs = search needs
 
-cast-t19 : tie.Need-cast-t19
-cast-t19 c = search needs
+cast-if2 : tie.Need-cast-if2
+cast-if2 c = search needs
+
+cast-t20 : tie.Need-cast-t20
+cast-t20 c = search needs
 
 returns-2 : tie.Need-returns-2
 returns-2 c = search needs
@@ -52,8 +61,8 @@ byte-at-requires-2 c κs = search needs
 params-at-requires : tie.Need-params-at-requires
 params-at-requires c κs = search needs
 
-cast-t21 : tie.Need-cast-t21
-cast-t21 c = search needs
+cast-t22 : tie.Need-cast-t22
+cast-t22 c = search needs
 
 returns-3 : tie.Need-returns-3
 returns-3 c = (
@@ -74,7 +83,8 @@ forbidden-spec =
     returns
     depth-of-requires
     taken-of-requires
-    cast-t19
+    cast-if2
+    cast-t20
     returns-2
     add-byte-at
     add-byte-at-2
@@ -83,5 +93,5 @@ forbidden-spec =
     add-byte-at-4
     byte-at-requires-2
     params-at-requires
-    cast-t21
+    cast-t22
     returns-3)

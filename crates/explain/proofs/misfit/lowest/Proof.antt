@@ -8,6 +8,11 @@ use native.Mathlib.Omega.{arith}
 use borrow.Author.Needs.{needs}
 use Rattle.explain.proofs.misfit.lowest.Statement.{statement}
 use Rattle.explain.proofs.misfit.lowest.Tie as tie
+use Rattle.explain.proofs.misfit.lowest.Reads as reads
+use Rattle.explain.proofs.misfit.lowest.Lts as lts
+use Rattle.explain.proofs.misfit.entries_met.Reads as entries-met-reads
+use Rattle.explain.proofs.misfit.followed.Reads as followed-reads
+use Rattle.explain.proofs.misfit.lower.Reads as lower-reads
 
 abbrev Inv-loop : tie.InvT-loop
 Inv-loop image map k count procs tables m sizes takes leaves kinds best₀ p₀ best p = AtPlace image (lightOf count procs tables) m k best
@@ -20,6 +25,9 @@ entries-met-requires c κs = (c .before .before .pre .0 .sound, c .before .befor
 
 loop-holds : tie.Need-loop-holds Inv-loop μ-loop
 loop-holds c = c .entries-met .ensures _
+
+mul-followed : tie.Need-mul-followed Inv-loop μ-loop
+mul-followed c = search needs
 
 shared-slice-read-followed : tie.Need-shared-slice-read-followed Inv-loop μ-loop
 shared-slice-read-followed c = search needs
@@ -50,6 +58,7 @@ lowest-spec =
     μ-loop
     entries-met-requires
     loop-holds
+    mul-followed
     shared-slice-read-followed
     followed-requires
     lower-requires

@@ -136,7 +136,7 @@ went-here k z = eqb-true k 0 (not-false (eqb k 0) (is-false (not (eqb k 0)) z))
 
 -- of the shared references nothing is had at exit
 abbrev stayed : Stays (this.ended .signature .params) (this.ended .kept)
-stayed = (stay-dropped (plain (λ _. Rm)) yes, (stay-dropped (shrSliceOf (0 ∷ []) tt (plain (λ _. u8))) yes, (stay-dropped (shrRefTo (1 ∷ []) tt (arrayOf (plain (λ _. u16)) 193)) yes, (stay-dropped (shrSliceOf (2 ∷ []) tt (plain (λ _. u8))) yes, (stay-slice (3 ∷ []) tt (plain (λ _. u16)), (stay-dropped (shrSliceOf (4 ∷ []) tt (plain (λ _. u16))) yes, (stay-slice (5 ∷ []) tt (plain (λ _. u16)), (stay-dropped (plain (λ _. u32)) yes, tt))))))))
+stayed = (stay-dropped (plain (λ _. Rm)) yes, (stay-dropped (shrSliceOf (0 ∷ []) tt (plain (λ _. u8))) yes, (stay-dropped (shrRefTo (1 ∷ []) tt (arrayOf (plain (λ _. u16)) 193)) yes, (stay-dropped (shrSliceOf (2 ∷ []) tt (plain (λ _. u32))) yes, (stay-slice (3 ∷ []) tt (plain (λ _. u16)), (stay-dropped (shrSliceOf (4 ∷ []) tt (plain (λ _. u16))) yes, (stay-slice (5 ∷ []) tt (plain (λ _. u16)), (stay-dropped (plain (λ _. u32)) yes, tt))))))))
 
 -- the contract that the proof cites
 abbrev Step : {M : Type 1} (𝓤 : URA M) (H : Heap 𝓤) (A : Atoms 𝓤) (mem : Memory → SProp 𝓤) (run : Routine → Fun 𝓤) → Contract 𝓤
@@ -207,7 +207,7 @@ module _ {M : Type 1} (𝓤 : URA M) (H : Heap 𝓤) (A : Atoms 𝓤) (W : Given
   TokY ν ν4 ν6 = ‵ (flft (ν ∷ []) fullShare) ⊛ (‵ (flft κ₁ q₁) ⊛ (‵ (flft κ₂ q₂) ⊛ (‵ (flft κ₃ q₃) ⊛ (‵ (flft (ν4 ∷ []) fullShare) ⊛ (‵ (flft κ₅ q₅) ⊛ (‵ (flft (ν6 ∷ []) fullShare) ⊛ ‵ ftrue))))))
 
   abbrev OwnX : Tn → ℕ → ℕ → GName → ℕ → GName → ℕ → GName → Fml
-  OwnX t ν l δ ν4 δ4 ν6 δ6 = fsep (Mref (t .m) ν l δ) (fsep (ShrSlice (named 0) κ₁ u8 .own x₁ (slice-vals x₁)) (fsep (ShrRef (named 1) κ₂ Rt .own x₂ (ptr-vals x₂)) (fsep (ShrSlice (named 2) κ₃ u8 .own x₃ (slice-vals x₃)) (fsep (MutSlice (named 4) (ν4 ∷ []) u16 .own (at-list x₄ δ4 (t .zs)) (slice-vals x₄)) (fsep (ShrSlice (named 4) κ₅ u16 .own x₅ (slice-vals x₅)) (fsep (MutSlice (named 6) (ν6 ∷ []) u16 .own (at-list x₆ δ6 (t .os)) (slice-vals x₆)) ftrue))))))
+  OwnX t ν l δ ν4 δ4 ν6 δ6 = fsep (Mref (t .m) ν l δ) (fsep (ShrSlice (named 0) κ₁ u8 .own x₁ (slice-vals x₁)) (fsep (ShrRef (named 1) κ₂ Rt .own x₂ (ptr-vals x₂)) (fsep (ShrSlice (named 2) κ₃ u32 .own x₃ (slice-vals x₃)) (fsep (MutSlice (named 4) (ν4 ∷ []) u16 .own (at-list x₄ δ4 (t .zs)) (slice-vals x₄)) (fsep (ShrSlice (named 4) κ₅ u16 .own x₅ (slice-vals x₅)) (fsep (MutSlice (named 6) (ν6 ∷ []) u16 .own (at-list x₆ δ6 (t .os)) (slice-vals x₆)) ftrue))))))
 
   long₆ : (t : Tn) → length (t .os) ≡ length (x₆ .now)
   long₆ t = t .on .sixteen ∙ sym (ask .outputs)
@@ -255,7 +255,7 @@ module _ {M : Type 1} (𝓤 : URA M) (H : Heap 𝓤) (A : Atoms 𝓤) (W : Given
     os = os;
     count = t .count + 1;
     is = at-own m v g;
-    on = goes-on (x₁ .now) (x₃ .now) (x₅ .now) n (length (x₄ .now)) s₀ (t .count) (at t) (t .on) (leftAt r m zs os) (ask .prepared .told) (ask .prepared .fits) l e z;
+    on = goes-on (x₁ .now) (x₃ .now) (x₅ .now) n (length (x₄ .now)) s₀ (t .count) (at t) (t .on) (leftAt r m zs os) (ask .prepared .fits) l e z;
   }
 
   less : (t : Tn) → t .count < n → n - (t .count + 1) < n - t .count
@@ -276,11 +276,11 @@ module _ {M : Type 1} (𝓤 : URA M) (H : Heap 𝓤) (A : Atoms 𝓤) (W : Given
 
   -- the context at the head of the loop
   abbrev I : (l0 l1 l2 l3 l4 l5 l6 l7 l8 l9 l10 l11 l12 l13 l14 l15 l16 l17 l18 l19 l20 : ℕ) → Tn → List (Item 𝓤)
-  I l0 l1 l2 l3 l4 l5 l6 l7 l8 l9 l10 l11 l12 l13 l14 l15 l16 l17 l18 l19 l20 t = ‵ (flft κ₁ q₁) ∷ ‵ (flft κ₂ q₂) ∷ ‵ (flft κ₃ q₃) ∷ ‵ (flft κ₄ q₄) ∷ ‵ (flft κ₅ q₅) ∷ ‵ (flft κ₆ q₆) ∷ ‵ (ShrSlice (named 0) κ₁ u8 .own x₁ (slice-vals x₁)) ∷ ‵ (ShrRef (named 1) κ₂ Rt .own x₂ (ptr-vals x₂)) ∷ ‵ (ShrSlice (named 2) κ₃ u8 .own x₃ (slice-vals x₃)) ∷ ‵ (MutSlice (named 3) κ₄ u16 .own (at-list x₄ (x₄ .name) (t .zs)) (slice-vals x₄)) ∷ ‵ (ShrSlice (named 4) κ₅ u16 .own x₅ (slice-vals x₅)) ∷ ‵ (MutSlice (named 5) κ₆ u16 .own (at-list x₆ (x₆ .name) (t .os)) (slice-vals x₆)) ∷ ‵ (froom (ty 20) l20 0) ∷ ‵ (fdies (ty 20) l20) ∷ ‵ (froom (ty 19) l19 0) ∷ ‵ (fdies (ty 19) l19) ∷ ‵ (froom (ty 18) l18 0) ∷ ‵ (fdies (ty 18) l18) ∷ ‵ (froom (ty 17) l17 0) ∷ ‵ (fdies (ty 17) l17) ∷ ‵ (froom (ty 16) l16 0) ∷ ‵ (fdies (ty 16) l16) ∷ ‵ (froom (ty 15) l15 0) ∷ ‵ (fdies (ty 15) l15) ∷ ‵ (froom (ty 14) l14 0) ∷ ‵ (fdies (ty 14) l14) ∷ ‵ (froom (ty 13) l13 0) ∷ ‵ (fdies (ty 13) l13) ∷ ‵ (froom (ty 12) l12 0) ∷ ‵ (fdies (ty 12) l12) ∷ ‵ (froom (ty 11) l11 0) ∷ ‵ (fdies (ty 11) l11) ∷ ‵ (fat fullShare (ty 10) l10 0 (vint w32 (t .count))) ∷ ‵ (fdies (ty 10) l10) ∷ ‵ (fat fullShare (ty 9) l9 0 (mach (t .m))) ∷ ‵ (fdies (ty 9) l9) ∷ ‵ (fat fullShare (ty 8) l8 0 (vint w32 n)) ∷ ‵ (fdies (ty 8) l8) ∷ ‵ (fat fullShare (ty 7) l7 0 (only (slice-vals x₆))) ∷ ‵ (fdies (ty 7) l7) ∷ ‵ (fat fullShare (ty 6) l6 0 (only (slice-vals x₅))) ∷ ‵ (fdies (ty 6) l6) ∷ ‵ (fat fullShare (ty 5) l5 0 (only (slice-vals x₄))) ∷ ‵ (fdies (ty 5) l5) ∷ ‵ (fat fullShare (ty 4) l4 0 (only (slice-vals x₃))) ∷ ‵ (fdies (ty 4) l4) ∷ ‵ (fat fullShare (ty 3) l3 0 (only (ptr-vals x₂))) ∷ ‵ (fdies (ty 3) l3) ∷ ‵ (fat fullShare (ty 2) l2 0 (only (slice-vals x₁))) ∷ ‵ (fdies (ty 2) l2) ∷ ‵ (fat fullShare (ty 1) l1 0 (mach h)) ∷ ‵ (fdies (ty 1) l1) ∷ ‵ (froom (ty 0) l0 0) ∷ ‵ (fdies (ty 0) l0) ∷ []
+  I l0 l1 l2 l3 l4 l5 l6 l7 l8 l9 l10 l11 l12 l13 l14 l15 l16 l17 l18 l19 l20 t = ‵ (flft κ₁ q₁) ∷ ‵ (flft κ₂ q₂) ∷ ‵ (flft κ₃ q₃) ∷ ‵ (flft κ₄ q₄) ∷ ‵ (flft κ₅ q₅) ∷ ‵ (flft κ₆ q₆) ∷ ‵ (ShrSlice (named 0) κ₁ u8 .own x₁ (slice-vals x₁)) ∷ ‵ (ShrRef (named 1) κ₂ Rt .own x₂ (ptr-vals x₂)) ∷ ‵ (ShrSlice (named 2) κ₃ u32 .own x₃ (slice-vals x₃)) ∷ ‵ (MutSlice (named 3) κ₄ u16 .own (at-list x₄ (x₄ .name) (t .zs)) (slice-vals x₄)) ∷ ‵ (ShrSlice (named 4) κ₅ u16 .own x₅ (slice-vals x₅)) ∷ ‵ (MutSlice (named 5) κ₆ u16 .own (at-list x₆ (x₆ .name) (t .os)) (slice-vals x₆)) ∷ ‵ (froom (ty 20) l20 0) ∷ ‵ (fdies (ty 20) l20) ∷ ‵ (froom (ty 19) l19 0) ∷ ‵ (fdies (ty 19) l19) ∷ ‵ (froom (ty 18) l18 0) ∷ ‵ (fdies (ty 18) l18) ∷ ‵ (froom (ty 17) l17 0) ∷ ‵ (fdies (ty 17) l17) ∷ ‵ (froom (ty 16) l16 0) ∷ ‵ (fdies (ty 16) l16) ∷ ‵ (froom (ty 15) l15 0) ∷ ‵ (fdies (ty 15) l15) ∷ ‵ (froom (ty 14) l14 0) ∷ ‵ (fdies (ty 14) l14) ∷ ‵ (froom (ty 13) l13 0) ∷ ‵ (fdies (ty 13) l13) ∷ ‵ (froom (ty 12) l12 0) ∷ ‵ (fdies (ty 12) l12) ∷ ‵ (froom (ty 11) l11 0) ∷ ‵ (fdies (ty 11) l11) ∷ ‵ (fat fullShare (ty 10) l10 0 (vint w32 (t .count))) ∷ ‵ (fdies (ty 10) l10) ∷ ‵ (fat fullShare (ty 9) l9 0 (mach (t .m))) ∷ ‵ (fdies (ty 9) l9) ∷ ‵ (fat fullShare (ty 8) l8 0 (vint w32 n)) ∷ ‵ (fdies (ty 8) l8) ∷ ‵ (fat fullShare (ty 7) l7 0 (only (slice-vals x₆))) ∷ ‵ (fdies (ty 7) l7) ∷ ‵ (fat fullShare (ty 6) l6 0 (only (slice-vals x₅))) ∷ ‵ (fdies (ty 6) l6) ∷ ‵ (fat fullShare (ty 5) l5 0 (only (slice-vals x₄))) ∷ ‵ (fdies (ty 5) l5) ∷ ‵ (fat fullShare (ty 4) l4 0 (only (slice-vals x₃))) ∷ ‵ (fdies (ty 4) l4) ∷ ‵ (fat fullShare (ty 3) l3 0 (only (ptr-vals x₂))) ∷ ‵ (fdies (ty 3) l3) ∷ ‵ (fat fullShare (ty 2) l2 0 (only (slice-vals x₁))) ∷ ‵ (fdies (ty 2) l2) ∷ ‵ (fat fullShare (ty 1) l1 0 (mach h)) ∷ ‵ (fdies (ty 1) l1) ∷ ‵ (froom (ty 0) l0 0) ∷ ‵ (fdies (ty 0) l0) ∷ []
 
   -- and where the loop is left, with the stop r in its local
   abbrev J : (l0 l1 l2 l3 l4 l5 l6 l7 l8 l9 l10 l11 l12 l13 l14 l15 l16 l17 l18 l19 l20 : ℕ) → Halt → ℕ → Machine → List ℕ → List ℕ → List (Item 𝓤)
-  J l0 l1 l2 l3 l4 l5 l6 l7 l8 l9 l10 l11 l12 l13 l14 l15 l16 l17 l18 l19 l20 r k m zs os = ‵ (flft κ₁ q₁) ∷ ‵ (flft κ₂ q₂) ∷ ‵ (flft κ₃ q₃) ∷ ‵ (flft κ₄ q₄) ∷ ‵ (flft κ₅ q₅) ∷ ‵ (flft κ₆ q₆) ∷ ‵ (ShrSlice (named 0) κ₁ u8 .own x₁ (slice-vals x₁)) ∷ ‵ (ShrRef (named 1) κ₂ Rt .own x₂ (ptr-vals x₂)) ∷ ‵ (ShrSlice (named 2) κ₃ u8 .own x₃ (slice-vals x₃)) ∷ ‵ (MutSlice (named 3) κ₄ u16 .own (at-list x₄ (x₄ .name) (zs)) (slice-vals x₄)) ∷ ‵ (ShrSlice (named 4) κ₅ u16 .own x₅ (slice-vals x₅)) ∷ ‵ (MutSlice (named 5) κ₆ u16 .own (at-list x₆ (x₆ .name) (os)) (slice-vals x₆)) ∷ ‵ (froom (ty 20) l20 0) ∷ ‵ (fdies (ty 20) l20) ∷ ‵ (froom (ty 19) l19 0) ∷ ‵ (fdies (ty 19) l19) ∷ ‵ (froom (ty 18) l18 0) ∷ ‵ (fdies (ty 18) l18) ∷ ‵ (froom (ty 17) l17 0) ∷ ‵ (fdies (ty 17) l17) ∷ ‵ (froom (ty 16) l16 0) ∷ ‵ (fdies (ty 16) l16) ∷ ‵ (froom (ty 15) l15 0) ∷ ‵ (fdies (ty 15) l15) ∷ ‵ (froom (ty 14) l14 0) ∷ ‵ (fdies (ty 14) l14) ∷ ‵ (fat fullShare (ty 13) l13 0 (halt-v (r))) ∷ ‵ (fdies (ty 13) l13) ∷ ‵ (froom (ty 12) l12 0) ∷ ‵ (fdies (ty 12) l12) ∷ ‵ (froom (ty 11) l11 0) ∷ ‵ (fdies (ty 11) l11) ∷ ‵ (fat fullShare (ty 10) l10 0 (vint w32 (k))) ∷ ‵ (fdies (ty 10) l10) ∷ ‵ (fat fullShare (ty 9) l9 0 (mach (m))) ∷ ‵ (fdies (ty 9) l9) ∷ ‵ (fat fullShare (ty 8) l8 0 (vint w32 n)) ∷ ‵ (fdies (ty 8) l8) ∷ ‵ (fat fullShare (ty 7) l7 0 (only (slice-vals x₆))) ∷ ‵ (fdies (ty 7) l7) ∷ ‵ (fat fullShare (ty 6) l6 0 (only (slice-vals x₅))) ∷ ‵ (fdies (ty 6) l6) ∷ ‵ (fat fullShare (ty 5) l5 0 (only (slice-vals x₄))) ∷ ‵ (fdies (ty 5) l5) ∷ ‵ (fat fullShare (ty 4) l4 0 (only (slice-vals x₃))) ∷ ‵ (fdies (ty 4) l4) ∷ ‵ (fat fullShare (ty 3) l3 0 (only (ptr-vals x₂))) ∷ ‵ (fdies (ty 3) l3) ∷ ‵ (fat fullShare (ty 2) l2 0 (only (slice-vals x₁))) ∷ ‵ (fdies (ty 2) l2) ∷ ‵ (fat fullShare (ty 1) l1 0 (mach h)) ∷ ‵ (fdies (ty 1) l1) ∷ ‵ (froom (ty 0) l0 0) ∷ ‵ (fdies (ty 0) l0) ∷ []
+  J l0 l1 l2 l3 l4 l5 l6 l7 l8 l9 l10 l11 l12 l13 l14 l15 l16 l17 l18 l19 l20 r k m zs os = ‵ (flft κ₁ q₁) ∷ ‵ (flft κ₂ q₂) ∷ ‵ (flft κ₃ q₃) ∷ ‵ (flft κ₄ q₄) ∷ ‵ (flft κ₅ q₅) ∷ ‵ (flft κ₆ q₆) ∷ ‵ (ShrSlice (named 0) κ₁ u8 .own x₁ (slice-vals x₁)) ∷ ‵ (ShrRef (named 1) κ₂ Rt .own x₂ (ptr-vals x₂)) ∷ ‵ (ShrSlice (named 2) κ₃ u32 .own x₃ (slice-vals x₃)) ∷ ‵ (MutSlice (named 3) κ₄ u16 .own (at-list x₄ (x₄ .name) (zs)) (slice-vals x₄)) ∷ ‵ (ShrSlice (named 4) κ₅ u16 .own x₅ (slice-vals x₅)) ∷ ‵ (MutSlice (named 5) κ₆ u16 .own (at-list x₆ (x₆ .name) (os)) (slice-vals x₆)) ∷ ‵ (froom (ty 20) l20 0) ∷ ‵ (fdies (ty 20) l20) ∷ ‵ (froom (ty 19) l19 0) ∷ ‵ (fdies (ty 19) l19) ∷ ‵ (froom (ty 18) l18 0) ∷ ‵ (fdies (ty 18) l18) ∷ ‵ (froom (ty 17) l17 0) ∷ ‵ (fdies (ty 17) l17) ∷ ‵ (froom (ty 16) l16 0) ∷ ‵ (fdies (ty 16) l16) ∷ ‵ (froom (ty 15) l15 0) ∷ ‵ (fdies (ty 15) l15) ∷ ‵ (froom (ty 14) l14 0) ∷ ‵ (fdies (ty 14) l14) ∷ ‵ (fat fullShare (ty 13) l13 0 (halt-v (r))) ∷ ‵ (fdies (ty 13) l13) ∷ ‵ (froom (ty 12) l12 0) ∷ ‵ (fdies (ty 12) l12) ∷ ‵ (froom (ty 11) l11 0) ∷ ‵ (fdies (ty 11) l11) ∷ ‵ (fat fullShare (ty 10) l10 0 (vint w32 (k))) ∷ ‵ (fdies (ty 10) l10) ∷ ‵ (fat fullShare (ty 9) l9 0 (mach (m))) ∷ ‵ (fdies (ty 9) l9) ∷ ‵ (fat fullShare (ty 8) l8 0 (vint w32 n)) ∷ ‵ (fdies (ty 8) l8) ∷ ‵ (fat fullShare (ty 7) l7 0 (only (slice-vals x₆))) ∷ ‵ (fdies (ty 7) l7) ∷ ‵ (fat fullShare (ty 6) l6 0 (only (slice-vals x₅))) ∷ ‵ (fdies (ty 6) l6) ∷ ‵ (fat fullShare (ty 5) l5 0 (only (slice-vals x₄))) ∷ ‵ (fdies (ty 5) l5) ∷ ‵ (fat fullShare (ty 4) l4 0 (only (slice-vals x₃))) ∷ ‵ (fdies (ty 4) l4) ∷ ‵ (fat fullShare (ty 3) l3 0 (only (ptr-vals x₂))) ∷ ‵ (fdies (ty 3) l3) ∷ ‵ (fat fullShare (ty 2) l2 0 (only (slice-vals x₁))) ∷ ‵ (fdies (ty 2) l2) ∷ ‵ (fat fullShare (ty 1) l1 0 (mach h)) ∷ ‵ (fdies (ty 1) l1) ∷ ‵ (froom (ty 0) l0 0) ∷ ‵ (fdies (ty 0) l0) ∷ []
 
   abbrev En : (l0 l1 l2 l3 l4 l5 l6 l7 l8 l9 l10 l11 l12 l13 l14 l15 l16 l17 l18 l19 l20 : ℕ) → Env 𝓤 H
   En l0 l1 l2 l3 l4 l5 l6 l7 l8 l9 l10 l11 l12 l13 l14 l15 l16 l17 l18 l19 l20 = (ty 0, l0) ∷ (ty 1, l1) ∷ (ty 2, l2) ∷ (ty 3, l3) ∷ (ty 4, l4) ∷ (ty 5, l5) ∷ (ty 6, l6) ∷ (ty 7, l7) ∷ (ty 8, l8) ∷ (ty 9, l9) ∷ (ty 10, l10) ∷ (ty 11, l11) ∷ (ty 12, l12) ∷ (ty 13, l13) ∷ (ty 14, l14) ∷ (ty 15, l15) ∷ (ty 16, l16) ∷ (ty 17, l17) ∷ (ty 18, l18) ∷ (ty 19, l19) ∷ (ty 20, l20) ∷ []
@@ -305,11 +305,11 @@ module _ {M : Type 1} (𝓤 : URA M) (H : Heap 𝓤) (A : Atoms 𝓤) (W : Given
         move ! (12 ∷ 13 ∷ []) $ free1 ! $ free0 ! $ keep ! (0 ∷ 1 ∷ 2 ∷ 3 ∷ 4 ∷ 5 ∷ 9 ∷ 11 ∷ []) $
         by ! (exits r k m zs os e l₄ l₆ (is-made r k m ish ism k-fits))
 
-    walk : Is Rm h (mach h ∷ []) → Room u8 (length (x₁ .now)) → Room u8 (length (x₃ .now)) → Room u16 (length (x₄ .now)) → Room u16 (length (x₅ .now)) → Room u16 (length (x₆ .now))
+    walk : Is Rm h (mach h ∷ []) → Room u8 (length (x₁ .now)) → Room u32 (length (x₃ .now)) → Room u16 (length (x₄ .now)) → Room u16 (length (x₅ .now)) → Room u16 (length (x₆ .now))
         → ent 𝓤 (onEntry 𝓤 H A this.signature κs (q₁, (q₂, (q₃, (q₄, (q₅, (q₆, tt)))))) a vals) (WpFn 𝓤 H (𝓣 .C) (𝓣 .Λ) code.function (mach h ∷ only (slice-vals x₁) ∷ only (ptr-vals x₂) ∷ only (slice-vals x₃) ∷ only (slice-vals x₄) ∷ only (slice-vals x₅) ∷ only (slice-vals x₆) ∷ vint w32 n ∷ []) Post)
     unfolding afterTurn
     walk is room1 room3 room4 room5 room6 =
-        qed W ((‵ (flft κ₁ q₁) ⊛ (‵ (flft κ₂ q₂) ⊛ (‵ (flft κ₃ q₃) ⊛ (‵ (flft κ₄ q₄) ⊛ (‵ (flft κ₅ q₅) ⊛ (‵ (flft κ₆ q₆) ⊛ ‵ ftrue)))))) ∷ ‵ (fsep (Rm .own h (mach h ∷ [])) (fsep (ShrSlice (named 0) κ₁ u8 .own x₁ (slice-vals x₁)) (fsep (ShrRef (named 1) κ₂ Rt .own x₂ (ptr-vals x₂)) (fsep (ShrSlice (named 2) κ₃ u8 .own x₃ (slice-vals x₃)) (fsep (MutSlice (named 3) κ₄ u16 .own (at-list x₄ (x₄ .name) (x₄ .now)) (slice-vals x₄)) (fsep (ShrSlice (named 4) κ₅ u16 .own x₅ (slice-vals x₅)) (fsep (MutSlice (named 5) κ₆ u16 .own (at-list x₆ (x₆ .name) (x₆ .now)) (slice-vals x₆)) (fsep (u32 .own n (vint w32 n ∷ [])) ftrue)))))))) ∷ []) ∵ enter ! (𝓣 .C) (𝓣 .Λ) code.function _ _ $
+        qed W ((‵ (flft κ₁ q₁) ⊛ (‵ (flft κ₂ q₂) ⊛ (‵ (flft κ₃ q₃) ⊛ (‵ (flft κ₄ q₄) ⊛ (‵ (flft κ₅ q₅) ⊛ (‵ (flft κ₆ q₆) ⊛ ‵ ftrue)))))) ∷ ‵ (fsep (Rm .own h (mach h ∷ [])) (fsep (ShrSlice (named 0) κ₁ u8 .own x₁ (slice-vals x₁)) (fsep (ShrRef (named 1) κ₂ Rt .own x₂ (ptr-vals x₂)) (fsep (ShrSlice (named 2) κ₃ u32 .own x₃ (slice-vals x₃)) (fsep (MutSlice (named 3) κ₄ u16 .own (at-list x₄ (x₄ .name) (x₄ .now)) (slice-vals x₄)) (fsep (ShrSlice (named 4) κ₅ u16 .own x₅ (slice-vals x₅)) (fsep (MutSlice (named 5) κ₆ u16 .own (at-list x₆ (x₆ .name) (x₆ .now)) (slice-vals x₆)) (fsep (u32 .own n (vint w32 n ∷ [])) ftrue)))))))) ∷ []) ∵ enter ! (𝓣 .C) (𝓣 .Λ) code.function _ _ $
         alloc1 ! (λ l0. alloc1 ! (λ l1. alloc1 ! (λ l2. alloc1 ! (λ l3. alloc1 ! (λ l4. alloc1 ! (λ l5. alloc1 ! (λ l6. alloc1 ! (λ l7. alloc1 ! (λ l8. alloc1 ! (λ l9. alloc1 ! (λ l10. alloc1 ! (λ l11. alloc1 ! (λ l12. alloc1 ! (λ l13. alloc1 ! (λ l14. alloc1 ! (λ l15. alloc1 ! (λ l16. alloc1 ! (λ l17. alloc1 ! (λ l18. alloc1 ! (λ l19. alloc1 ! (λ l20. alloc0 ! $ params1 ! $
         pass1 ! (init ! 38 refl (LL.lawful M′.the-type ML.the-laws 𝓤 H A W .typed h _ is .0)) $ pass1 ! (init ! 36 refl (tt, (tt, (record { fits = room1 .0 }, tt)))) $ pass1 ! (init ! 34 refl (tt, tt)) $ pass1 ! (init ! 32 refl (tt, (tt, (record { fits = room3 .0 }, tt)))) $ pass1 ! (init ! 30 refl (tt, (tt, (record { fits = room4 .0 }, tt)))) $ pass1 ! (init ! 28 refl (tt, (tt, (record { fits = room5 .0 }, tt)))) $ pass1 ! (init ! 26 refl (tt, (tt, (record { fits = room6 .0 }, tt)))) $ pass1 ! (init ! 24 refl (tt, record { fits = n-fits })) $ pass0 ! $
         move ! (42 ∷ []) $ split ! $ move ! (1 ∷ []) $ split ! $ move ! (1 ∷ []) $ split ! $ move ! (1 ∷ []) $ split ! $ move ! (1 ∷ []) $ split ! $
@@ -354,7 +354,7 @@ module _ {M : Type 1} (𝓤 : URA M) (H : Heap 𝓤) (A : Atoms 𝓤) (W : Given
         split ! $ move ! (15 ∷ []) $
         use1 W (‵ (ShrRef (named 1) κ₂ Rt .own x₂ (ptr-vals x₂)) ⊛ ‵ (ShrRef (named 1) κ₂ Rt .own x₂ (ptr-vals x₂))) (shr-copy 𝓤 H A W (named 1) κ₂ Rt .twice x₂ (ptr-vals x₂)) $
         split ! $ move ! (17 ∷ []) $
-        use1 W (‵ (ShrSlice (named 2) κ₃ u8 .own x₃ (slice-vals x₃)) ⊛ ‵ (ShrSlice (named 2) κ₃ u8 .own x₃ (slice-vals x₃))) (shr-slice-copy 𝓤 H A W (named 2) κ₃ u8 .twice x₃ (slice-vals x₃)) $
+        use1 W (‵ (ShrSlice (named 2) κ₃ u32 .own x₃ (slice-vals x₃)) ⊛ ‵ (ShrSlice (named 2) κ₃ u32 .own x₃ (slice-vals x₃))) (shr-slice-copy 𝓤 H A W (named 2) κ₃ u32 .twice x₃ (slice-vals x₃)) $
         split ! $ move ! (19 ∷ []) $
         use1 W (‵ (ShrSlice (named 4) κ₅ u16 .own x₅ (slice-vals x₅)) ⊛ ‵ (ShrSlice (named 4) κ₅ u16 .own x₅ (slice-vals x₅))) (shr-slice-copy 𝓤 H A W (named 4) κ₅ u16 .twice x₅ (slice-vals x₅)) $
         split ! $ nothing ! $ move ! (9 ∷ 0 ∷ []) $ fjoin ! $ move ! (2 ∷ 0 ∷ []) $ fjoin ! $ move ! (10 ∷ 0 ∷ []) $ fjoin ! $ move ! (3 ∷ 0 ∷ []) $ fjoin ! $
@@ -406,14 +406,14 @@ module _ {M : Type 1} (𝓤 : URA M) (H : Heap 𝓤) (A : Atoms 𝓤) (W : Given
   this-walks : (𝓣 : Tables 𝓤 H) → Triple 𝓤 (𝓣 .C #in_place·step-in-place) (Step 𝓤 H A mem run) → Walks 𝓤 H A this.ended stayed (WpFn 𝓤 H (𝓣 .C) (𝓣 .Λ) code.function) (this.clauses 𝓤 H A mem run)
   this-walks 𝓣 known = walked 𝓤 H A this.ended stayed (this.clauses 𝓤 H A mem run) (WpFn 𝓤 H (𝓣 .C) (𝓣 .Λ) code.function)
       (λ κs. (LL.vals M′.the-type ML.the-laws, (slice-vals, (ptr-vals, (slice-vals, (slice-vals, (slice-vals, (slice-vals, (uint-vals w32, tt)))))))))
-      (λ κs. (LL.tells M′.the-type ML.the-laws, (shr-slice-tells (named 0) (κs .0) u8, (shr-tells (named 1) (κs .1 .0) Rt, (shr-slice-tells (named 2) (κs .1 .1 .0) u8, (mut-slice-tells (named 3) (κs .1 .1 .1 .0) u16, (shr-slice-tells (named 4) (κs .1 .1 .1 .1 .0) u16, (mut-slice-tells (named 5) (κs .1 .1 .1 .1 .1 .0) u16, (uint-tells w32, tt)))))))))
+      (λ κs. (LL.tells M′.the-type ML.the-laws, (shr-slice-tells (named 0) (κs .0) u8, (shr-tells (named 1) (κs .1 .0) Rt, (shr-slice-tells (named 2) (κs .1 .1 .0) u32, (mut-slice-tells (named 3) (κs .1 .1 .1 .0) u16, (shr-slice-tells (named 4) (κs .1 .1 .1 .1 .0) u16, (mut-slice-tells (named 5) (κs .1 .1 .1 .1 .1 .0) u16, (uint-tells w32, tt)))))))))
       (λ κs qs bounds a g are. needs 𝓤 (Passed (a .1 .0 .now) (a .1 .1 .1 .0 .now) (a .0) (length (a .1 .1 .1 .1 .0 .now)) (length (a .1 .1 .1 .1 .1 .1 .0 .now)) (length (a .1 .1 .1 .1 .1 .0 .now)) (a .1 .1 .0 .now)) _ (λ ask.
       walk 𝓤 H A W mem run (κs .0) (κs .1 .0) (κs .1 .1 .0) (κs .1 .1 .1 .0) (κs .1 .1 .1 .1 .0) (κs .1 .1 .1 .1 .1 .0) (qs .0) (qs .1 .0) (qs .1 .1 .0) (qs .1 .1 .1 .0) (qs .1 .1 .1 .1 .0) (qs .1 .1 .1 .1 .1 .0)
       (a .0) (a .1 .0) (a .1 .1 .0) (a .1 .1 .1 .0) (a .1 .1 .1 .1 .0) (a .1 .1 .1 .1 .1 .0) (a .1 .1 .1 .1 .1 .1 .0) (a .1 .1 .1 .1 .1 .1 .1 .0) (are .1 .1 .1 .1 .1 .1 .1 .0 .1) ask 𝓣 (fmOf 𝓤 H (W .laws) 𝓣) known (are .0)
       (are .1 .0 .0 .1) (are .1 .1 .1 .0 .0 .1) (are .1 .1 .1 .1 .0 .0 .1) (are .1 .1 .1 .1 .1 .0 .0 .1) (are .1 .1 .1 .1 .1 .1 .0 .0 .1)))
 
   this-goes : AllGo 𝓤 H A W 6 (this.signature .params) (this.ended .kept) stayed
-  this-goes = (goes-dropped 𝓤 H A W 6 (plain (λ _. Rm)) yes (λ κs x f. refl), (goes-dropped 𝓤 H A W 6 (shrSliceOf (0 ∷ []) tt (plain (λ _. u8))) yes (λ κs x f. refl), (goes-dropped 𝓤 H A W 6 (shrRefTo (1 ∷ []) tt (arrayOf (plain (λ _. u16)) 193)) yes (λ κs x f. refl), (goes-dropped 𝓤 H A W 6 (shrSliceOf (2 ∷ []) tt (plain (λ _. u8))) yes (λ κs x f. refl), (goes-slice 𝓤 H A W 6 3 tt (plain (λ _. u16)), (goes-dropped 𝓤 H A W 6 (shrSliceOf (4 ∷ []) tt (plain (λ _. u16))) yes (λ κs x f. refl), (goes-slice 𝓤 H A W 6 5 tt (plain (λ _. u16)), (goes-dropped 𝓤 H A W 6 (plain (λ _. u32)) yes (λ κs x f. refl), tt))))))))
+  this-goes = (goes-dropped 𝓤 H A W 6 (plain (λ _. Rm)) yes (λ κs x f. refl), (goes-dropped 𝓤 H A W 6 (shrSliceOf (0 ∷ []) tt (plain (λ _. u8))) yes (λ κs x f. refl), (goes-dropped 𝓤 H A W 6 (shrRefTo (1 ∷ []) tt (arrayOf (plain (λ _. u16)) 193)) yes (λ κs x f. refl), (goes-dropped 𝓤 H A W 6 (shrSliceOf (2 ∷ []) tt (plain (λ _. u32))) yes (λ κs x f. refl), (goes-slice 𝓤 H A W 6 3 tt (plain (λ _. u16)), (goes-dropped 𝓤 H A W 6 (shrSliceOf (4 ∷ []) tt (plain (λ _. u16))) yes (λ κs x f. refl), (goes-slice 𝓤 H A W 6 5 tt (plain (λ _. u16)), (goes-dropped 𝓤 H A W 6 (plain (λ _. u32)) yes (λ κs x f. refl), tt))))))))
 
 this-meets : {M : Type 1} (𝓤 : URA M) (H : Heap 𝓤) (A : Atoms 𝓤) → Given 𝓤 H A → (mem : Memory → SProp 𝓤) (run : Routine → Fun 𝓤) (𝓣 : Tables 𝓤 H) → Triple 𝓤 (𝓣 .C #in_place·step-in-place) (Step 𝓤 H A mem run)
     → Meets 𝓤 H A this.signature (WpFn 𝓤 H (𝓣 .C) (𝓣 .Λ) code.function) (this.spec 𝓤 H A mem run)

@@ -27,7 +27,7 @@ use sound.WpLaws.{FmC, fmOf, WpFn-mono}
 use denote.RattleType.{RattleType, owns}
 use denote.Memory.{mem}
 use denote.Laws.{Is, shows}
-use denote.Builtin.{u8, u16}
+use denote.Builtin.{u8, u16, u32}
 use denote.Array.{Array}
 use denote.Ref.{RefT, MutRef, ShrRef, ptr-vals, mut-tells, shr-tells}
 use denote.Slice.{sliceVal, slice-vals, MutSlice, ShrSlice, Room, finally, mut-slice-tells, shr-slice-tells}
@@ -84,7 +84,7 @@ Rt = Array u16 193
 
 -- a shared reference is given to the callee, and nothing is had of it at exit
 abbrev stayed : Stays (this.ended .signature .params) (this.ended .kept)
-stayed = (stay-ref (0 ∷ []) tt (plain (λ _. Rm)), (stay-dropped (shrSliceOf (1 ∷ []) tt (plain (λ _. u8))) yes, (stay-dropped (shrRefTo (2 ∷ []) tt (arrayOf (plain (λ _. u16)) 193)) yes, (stay-dropped (shrSliceOf (3 ∷ []) tt (plain (λ _. u8))) yes, (gave-slice (4 ∷ []) tt (plain (λ _. u16)), (stay-dropped (shrSliceOf (5 ∷ []) tt (plain (λ _. u16))) yes, (gave-slice (6 ∷ []) tt (plain (λ _. u16)), tt)))))))
+stayed = (stay-ref (0 ∷ []) tt (plain (λ _. Rm)), (stay-dropped (shrSliceOf (1 ∷ []) tt (plain (λ _. u8))) yes, (stay-dropped (shrRefTo (2 ∷ []) tt (arrayOf (plain (λ _. u16)) 193)) yes, (stay-dropped (shrSliceOf (3 ∷ []) tt (plain (λ _. u32))) yes, (gave-slice (4 ∷ []) tt (plain (λ _. u16)), (stay-dropped (shrSliceOf (5 ∷ []) tt (plain (λ _. u16))) yes, (gave-slice (6 ∷ []) tt (plain (λ _. u16)), tt)))))))
 
 -- the contract that the proof cites
 abbrev Step : {M : Type 1} (𝓤 : URA M) (H : Heap 𝓤) (A : Atoms 𝓤) (mem : Memory → SProp 𝓤) (run : Routine → Fun 𝓤) → Contract 𝓤
@@ -108,7 +108,7 @@ module _ {M : Type 1} (𝓤 : URA M) (H : Heap 𝓤) (A : Atoms 𝓤) (W : Given
   Tok = ‵ (flft κ₁ q₁) ⊛ (‵ (flft κ₂ q₂) ⊛ (‵ (flft κ₃ q₃) ⊛ (‵ (flft κ₄ q₄) ⊛ (‵ (flft κ₅ q₅) ⊛ (‵ (flft κ₆ q₆) ⊛ ‵ ftrue)))))
 
   abbrev Sl : Fml
-  Sl = owns (ShrSlice (named 1) κ₁ u8 ∷ ShrRef (named 2) κ₂ Rt ∷ ShrSlice (named 3) κ₃ u8 ∷ MutSlice (named 4) κ₄ u16 ∷ ShrSlice (named 5) κ₅ u16 ∷ MutSlice (named 6) κ₆ u16 ∷ []) xs vs₆
+  Sl = owns (ShrSlice (named 1) κ₁ u8 ∷ ShrRef (named 2) κ₂ Rt ∷ ShrSlice (named 3) κ₃ u32 ∷ MutSlice (named 4) κ₄ u16 ∷ ShrSlice (named 5) κ₅ u16 ∷ MutSlice (named 6) κ₆ u16 ∷ []) xs vs₆
 
   abbrev Arg : Type 0
   Arg = RefT Machine × Rest
@@ -176,7 +176,7 @@ module _ {M : Type 1} (𝓤 : URA M) (H : Heap 𝓤) (A : Atoms 𝓤) (W : Given
   is-machine r w g = LL.owed S′.the-type SL.the-laws r _ g .1 .1 .0
 
   module _ (C : Calls 𝓤 H) (Λ : Loops 𝓤 H) (fm : FmC 𝓤 H (W .laws) C) (known : Triple 𝓤 (C #execute·step) (Step 𝓤 H A at-mem run)) where
-    walk : Asked₁ → Asked₂ → Asked₃ → Room u8 (length (x₁ .now)) → Room u8 (length (x₃ .now)) → Room u16 (length (x₄ .now)) → Room u16 (length (x₅ .now)) → Room u16 (length (x₆ .now))
+    walk : Asked₁ → Asked₂ → Asked₃ → Room u8 (length (x₁ .now)) → Room u32 (length (x₃ .now)) → Room u16 (length (x₄ .now)) → Room u16 (length (x₅ .now)) → Room u16 (length (x₆ .now))
         → ent 𝓤 (onEntry 𝓤 H A this.signature κs (q, (q₁, (q₂, (q₃, (q₄, (q₅, (q₆, tt))))))) a vals) (WpFn 𝓤 H C Λ code.function (vptr b o ∷ sliceVal (x₁ .ptr) (length (x₁ .now)) ∷ vptr (x₂ .ptr .0) (x₂ .ptr .1) ∷ sliceVal (x₃ .ptr) (length (x₃ .now)) ∷ sliceVal (x₄ .ptr) (length (x₄ .now)) ∷ sliceVal (x₅ .ptr) (length (x₅ .now)) ∷ sliceVal (x₆ .ptr) (length (x₆ .now)) ∷ []) Post)
     walk ask₁ ask₂ ask₃ room1 room3 room4 room5 room6 =
         qed W ((‵ (flft κ q) ⊛ Tok) ∷ ‵ (fsep (MutRef (named 0) κ Rm .own (a .0) (vptr b o ∷ [])) Sl) ∷ []) ∵ enter ! C Λ code.function _ _ $
@@ -215,14 +215,14 @@ module _ {M : Type 1} (𝓤 : URA M) (H : Heap 𝓤) (A : Atoms 𝓤) (W : Given
   this-walks : (C : Calls 𝓤 H) (Λ : Loops 𝓤 H) → FmC 𝓤 H (W .laws) C → Triple 𝓤 (C #execute·step) (Step 𝓤 H A mem run) → Walks 𝓤 H A this.ended stayed (WpFn 𝓤 H C Λ code.function) (this.clauses 𝓤 H A mem run)
   this-walks C Λ fm known = walked 𝓤 H A this.ended stayed (this.clauses 𝓤 H A mem run) (WpFn 𝓤 H C Λ code.function)
       (λ κs. (ptr-vals, (slice-vals, (ptr-vals, (slice-vals, (slice-vals, (slice-vals, (slice-vals, tt))))))))
-      (λ κs. (mut-tells (named 0) (κs .0) Rm, (shr-slice-tells (named 1) (κs .1 .0) u8, (shr-tells (named 2) (κs .1 .1 .0) Rt, (shr-slice-tells (named 3) (κs .1 .1 .1 .0) u8, (mut-slice-tells (named 4) (κs .1 .1 .1 .1 .0) u16, (shr-slice-tells (named 5) (κs .1 .1 .1 .1 .1 .0) u16, (mut-slice-tells (named 6) (κs .1 .1 .1 .1 .1 .1 .0) u16, tt))))))))
+      (λ κs. (mut-tells (named 0) (κs .0) Rm, (shr-slice-tells (named 1) (κs .1 .0) u8, (shr-tells (named 2) (κs .1 .1 .0) Rt, (shr-slice-tells (named 3) (κs .1 .1 .1 .0) u32, (mut-slice-tells (named 4) (κs .1 .1 .1 .1 .0) u16, (shr-slice-tells (named 5) (κs .1 .1 .1 .1 .1 .0) u16, (mut-slice-tells (named 6) (κs .1 .1 .1 .1 .1 .1 .0) u16, tt))))))))
       (λ κs qs bounds a g are. needs-three 𝓤 (Prepared (a .1 .0 .now) (a .1 .1 .0 .now) (a .1 .1 .1 .0 .now) (length (a .1 .1 .1 .1 .0 .now))) (isMachine (parse (a .1 .0 .now) .program) (a .1 .1 .1 .0 .now) (length (a .1 .1 .1 .1 .0 .now)) (a .0 .now) ≡ true) ((length (a .1 .1 .1 .1 .1 .0 .now) ≡ 16) × (length (a .1 .1 .1 .1 .1 .1 .0 .now) ≡ 16)) _ (λ ask₁ ask₂ ask₃.
       walk 𝓤 H A W mem run (κs .0) (κs .1 .0) (κs .1 .1 .0) (κs .1 .1 .1 .0) (κs .1 .1 .1 .1 .0) (κs .1 .1 .1 .1 .1 .0) (κs .1 .1 .1 .1 .1 .1 .0) (qs .0) (qs .1 .0) (qs .1 .1 .0) (qs .1 .1 .1 .0) (qs .1 .1 .1 .1 .0) (qs .1 .1 .1 .1 .1 .0) (qs .1 .1 .1 .1 .1 .1 .0)
       (a .0 .ptr .0) (a .0 .ptr .1) (a .0 .name) (a .0 .now) (a .1 .0) (a .1 .1 .0) (a .1 .1 .1 .0) (a .1 .1 .1 .1 .0) (a .1 .1 .1 .1 .1 .0) (a .1 .1 .1 .1 .1 .1 .0) C Λ fm known ask₁ ask₂ ask₃
       (are .1 .0 .0 .1) (are .1 .1 .1 .0 .0 .1) (are .1 .1 .1 .1 .0 .0 .1) (are .1 .1 .1 .1 .1 .0 .0 .1) (are .1 .1 .1 .1 .1 .1 .0 .0 .1)))
 
   this-goes : AllGo 𝓤 H A W 7 (this.signature .params) (this.ended .kept) stayed
-  this-goes = (goes-ref 𝓤 H A W 7 0 tt (plain (λ _. Rm)), (goes-dropped 𝓤 H A W 7 (shrSliceOf (1 ∷ []) tt (plain (λ _. u8))) yes (λ κs x f. refl), (goes-dropped 𝓤 H A W 7 (shrRefTo (2 ∷ []) tt (arrayOf (plain (λ _. u16)) 193)) yes (λ κs x f. refl), (goes-dropped 𝓤 H A W 7 (shrSliceOf (3 ∷ []) tt (plain (λ _. u8))) yes (λ κs x f. refl), (goes-gave-slice 𝓤 H A W 7 4 tt (plain (λ _. u16)), (goes-dropped 𝓤 H A W 7 (shrSliceOf (5 ∷ []) tt (plain (λ _. u16))) yes (λ κs x f. refl), (goes-gave-slice 𝓤 H A W 7 6 tt (plain (λ _. u16)), tt)))))))
+  this-goes = (goes-ref 𝓤 H A W 7 0 tt (plain (λ _. Rm)), (goes-dropped 𝓤 H A W 7 (shrSliceOf (1 ∷ []) tt (plain (λ _. u8))) yes (λ κs x f. refl), (goes-dropped 𝓤 H A W 7 (shrRefTo (2 ∷ []) tt (arrayOf (plain (λ _. u16)) 193)) yes (λ κs x f. refl), (goes-dropped 𝓤 H A W 7 (shrSliceOf (3 ∷ []) tt (plain (λ _. u32))) yes (λ κs x f. refl), (goes-gave-slice 𝓤 H A W 7 4 tt (plain (λ _. u16)), (goes-dropped 𝓤 H A W 7 (shrSliceOf (5 ∷ []) tt (plain (λ _. u16))) yes (λ κs x f. refl), (goes-gave-slice 𝓤 H A W 7 6 tt (plain (λ _. u16)), tt)))))))
 
 this-meets : {M : Type 1} (𝓤 : URA M) (H : Heap 𝓤) (A : Atoms 𝓤) → Given 𝓤 H A → (mem : Memory → SProp 𝓤) (run : Routine → Fun 𝓤) (𝓣 : Tables 𝓤 H) → Triple 𝓤 (𝓣 .C #execute·step) (Step 𝓤 H A mem run)
     → Meets 𝓤 H A this.signature (WpFn 𝓤 H (𝓣 .C) (𝓣 .Λ) code.function) (this.spec 𝓤 H A mem run)

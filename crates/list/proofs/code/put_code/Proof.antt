@@ -7,7 +7,7 @@ use Rattle.list.proofs.code.put_code.Statement.{statement}
 use Rattle.list.proofs.code.put_code.Tie as tie
 
 abbrev Inv-loop : tie.InvT-loop
-Inv-loop out₀ used₀ image m marks notes here₀ out used here = length marks ≡ m .length
+Inv-loop out₀ used₀ image m marks notes here₀ out used here = (length marks ≡ m .length) × (length notes ≡ m .length)
 
 abbrev μ-loop : tie.MeasureT-loop
 μ-loop out₀ used₀ image m marks notes here₀ out used here = length marks - here .at

@@ -59,6 +59,9 @@ cast-e c = omega (arith, c .before .before .before .before .before .before .befo
 add-e : tie.Need-add-e Inv-loop μ-loop
 add-e c = omega (arith, c .before .before .before .before .before .before .before .before .before .before .before .before .before .before .pre .0 .laid .behind (c .before .before .before .loop .k) (c .before .before .loop-test .taken), c .before .before .before .before .before .before .before .before .before .before .before .before .before .before .pre .0 .brief)
 
+mul-check : tie.Need-mul-check Inv-loop μ-loop
+mul-check c = omega (arith, c .before .before .before .before .before .before .before .before .before .before .before .before .before .before .pre .0 .laid .behind (c .before .before .before .loop .k) (c .before .before .loop-test .taken), c .before .before .before .before .before .before .before .before .before .before .before .before .before .before .pre .0 .brief)
+
 sub-check : tie.Need-sub-check Inv-loop μ-loop
 sub-check c = omega arith
 
@@ -164,6 +167,7 @@ check-all-spec =
     element-copy-out-m
     cast-e
     add-e
+    mul-check
     sub-check
     part-check-start
     part-check-end

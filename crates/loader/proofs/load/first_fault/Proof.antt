@@ -43,6 +43,9 @@ cast-e c = omega (arith, c .before .before .before .before .before .before .befo
 add-e : tie.Need-add-e Inv-loop μ-loop
 add-e c = omega (arith, c .before .before .before .before .before .before .before .before .before .pre .0 .laid .behind (c .before .before .before .loop .k) (c .before .before .loop-test .taken), c .before .before .before .before .before .before .before .before .before .pre .0 .brief)
 
+mul-walk : tie.Need-mul-walk Inv-loop μ-loop
+mul-walk c = omega (arith, c .before .before .before .before .before .before .before .before .before .pre .0 .laid .behind (c .before .before .before .loop .k) (c .before .before .loop-test .taken), c .before .before .before .before .before .before .before .before .before .pre .0 .brief)
+
 sub-walk : tie.Need-sub-walk Inv-loop μ-loop
 sub-walk c = omega arith
 
@@ -60,6 +63,9 @@ walk-requires c κs =
     let S = c .before .before .before .before .before .before .before .before .before .before .before .before .before .pre .0 .laid .sound k (c .before .before .before .before .before .before .loop-test .taken) in
     let long : to P k ≤ length (c .before .before .before .before .before .before .before .loop .map) = omega (arith, c .before .before .before .before .before .before .before .before .before .before .before .before .before .pre .0 .laid .behind k (c .before .before .before .before .before .before .loop-test .taken), c .before .before .before .before .before .before .before .before .before .before .before .before .before .pre .1 .0, c .before .before .before .before .before .before .before .loop .inv .1 .long) in
     (S, ((refl, refl), (length-part (c .before .before .before .before .before .before .before .loop .map) (from P k) (to P k) long ∙ omega arith, omega (arith, S .short, c .before .before .before .before .before .before .before .before .before .before .before .before .before .pre .1 .1, c .before .before .before .before .before .before .before .loop .inv .3))))
+
+mul-lowest : tie.Need-mul-lowest Inv-loop μ-loop
+mul-lowest c = omega (arith, c .before .before .before .before .before .before .before .before .before .before .before .before .before .before .before .before .before .before .pre .0 .laid .behind (c .before .before .before .before .before .before .before .before .before .before .before .before .loop .k) (c .before .before .before .before .before .before .before .before .before .before .before .loop-test .taken), c .before .before .before .before .before .before .before .before .before .before .before .before .before .before .before .before .before .before .pre .0 .brief)
 
 sub-lowest : tie.Need-sub-lowest Inv-loop μ-loop
 sub-lowest c = omega arith
@@ -159,10 +165,12 @@ first-fault-spec =
     element-copy-out-m
     cast-e
     add-e
+    mul-walk
     sub-walk
     part-walk-start
     part-walk-end
     walk-requires
+    mul-lowest
     sub-lowest
     part-lowest-start
     part-lowest-end

@@ -15,8 +15,8 @@ next-word-requires c κs = tt
 loop-holds : tie.Need-loop-holds Inv-loop μ-loop
 loop-holds c = tt
 
-patch-byte-requires : tie.Need-patch-byte-requires Inv-loop μ-loop
-patch-byte-requires c κs = tt
+patch-entry-requires : tie.Need-patch-entry-requires Inv-loop μ-loop
+patch-entry-requires c κs = tt
 
 sub-left : tie.Need-sub-left Inv-loop μ-loop
 sub-left c = search needs
@@ -38,7 +38,7 @@ patch-map-spec =
     μ-loop
     next-word-requires
     loop-holds
-    patch-byte-requires
+    patch-entry-requires
     sub-left
     loop-less
     loop-again

@@ -251,7 +251,7 @@ fn unmarked(map: &[u32], from: usize, to: usize) -> bool
     true
 }
 
-// The same, where the bytes from `at` up to the module's code are unmarked. It has two callers: so it is compiled as a function, with the
+// The same, where the entries from `at` up to the module's code are unmarked. It has two callers: so it is compiled as a function, with the
 // tables in its frame and registers of its own.
 fn module_fits(
     image: &[u8],
@@ -274,7 +274,7 @@ fn module_fits(
     false
 }
 
-// Whether a lent map fits the image: each module's part does, and the bytes before, between and after the codes are unmarked.
+// Whether a lent map fits the image: each module's part does, and the entries before, between and after the codes are unmarked.
 pub fn map_fits(image: &[u8], program: Program, map: &[u32]) -> bool
     requires { ⌜ Told (now image) program ⌝ }
     requires { ⌜ length (now image) ≤ length (now map) ⌝ }

@@ -109,7 +109,7 @@ fn first_fault(image: &[u8], program: Program, map: &mut [u32], work: &mut [u16]
     answer(8)
 }
 
-// The refusal where no depths fit, 13 or 8: the map is FF over the image's length.
+// The refusal where no depths fit, 13 or 8: the map is unmarked over the image's length.
 fn refused(image: &[u8], program: Program, map: &mut [u32], work: &mut [u16]) -> Verdict
     requires { ⌜ Told (now image) program ⌝ }
     requires { ⌜ (length (now image) ≤ length (now map)) × (32767 ≤ length (now work)) ⌝ }
@@ -121,8 +121,8 @@ fn refused(image: &[u8], program: Program, map: &mut [u32], work: &mut [u16]) ->
     v
 }
 
-// The number of the refusal, 1 to 8 or 13, or 0; the module and the position at fault with 13. A map that is refused with 13 or 8 is FF
-// over the image's length, and every other refusal leaves it as it was.
+// The number of the refusal, 1 to 8 or 13, or 0; the module and the position at fault with 13. With 13 or 8 the map is
+// unmarked over the image's length, and every other refusal leaves it as it was.
 pub fn load(image: &[u8], map: &mut [u32]) -> Verdict
     ensures { λ r. ⌜ Loads (now (image .entry)) (now (map .entry)) r (now (map .exit)) ⌝ }
 {

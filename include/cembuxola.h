@@ -92,7 +92,7 @@ enum {
     CEMBUXOLA_RETURN_MARK = 34,  /* trap: no place to return to, or no saved words to restore */
     CEMBUXOLA_PROCESS = 35,      /* trap: no process to transfer to */
     CEMBUXOLA_DIVISOR = 36,      /* trap: a divisor of 0 */
-    CEMBUXOLA_SIGNED_RANGE = 37, /* trap: a result outside -32,768 to 32,767 */
+    CEMBUXOLA_RESULT_RANGE = 37, /* trap: a result that no word holds: signed outside -32,768 to 32,767, unsigned outside 0 to 65,535 */
     CEMBUXOLA_CHECK = 38,        /* trap: a value outside its limits */
     CEMBUXOLA_CHANNEL = 39,      /* trap: a channel above 15 */
     CEMBUXOLA_PROGRAM = 40       /* trap by the program, with its code */

@@ -248,7 +248,7 @@ fn input_and_output() -> Loop {
     let body = [
         0o025, 3, 5, 0o240, // word G+3 becomes input 5
         6, 0o103, 0o241, // output 6 becomes it
-        7, 0o044, 0o241, 0o044, 1, 0o270, 0o064, // output 7 becomes x, and x + 1
+        7, 0o044, 0o241, 0o103, 1, 0o270, 0o064, // output 7 becomes x, and x the input and 1
     ];
     plain("input and output", &[with_data(repeated(&body))])
 }

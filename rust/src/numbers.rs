@@ -114,7 +114,8 @@ pub enum Stop {
     ReturnMark,
     Process,
     Divisor,
-    SignedRange,
+    /// A result that no word holds: signed outside -32,768 to 32,767, unsigned outside 0 to 65,535.
+    ResultRange,
     Check,
     Channel,
     /// With the program's own code.
@@ -129,7 +130,7 @@ const STOPS: [(Stop, &str); 10] = [
     (Stop::ReturnMark, "return mark"),
     (Stop::Process, "process"),
     (Stop::Divisor, "divisor"),
-    (Stop::SignedRange, "signed range"),
+    (Stop::ResultRange, "result range"),
     (Stop::Check, "check"),
     (Stop::Channel, "channel"),
 ];

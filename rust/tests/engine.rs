@@ -59,10 +59,11 @@ fn marked_cases() {
     );
     // 300 x 110 signed
     let (ran, _) = stopped(&[0x12, 1, 44, 0x10, 110, 0xDA, 0xC4], 9);
-    assert_eq!((ran.stop, ran.count), (Stop::SignedRange, 2));
+    assert_eq!((ran.stop, ran.count), (Stop::ResultRange, 2));
     // 65,535 + 1 unsigned, then TRAP with the sum as its code
-    let (ran, _) = stopped(&[0x12, 255, 255, 1, 0xB8, 0xC4], 9);
-    assert_eq!((ran.stop, ran.stop.code()), (Stop::Program(0), 0));
+    let (ran, cabinet) = stopped(&[0x12, 255, 255, 1, 0xB8, 0xC4], 9);
+    assert_eq!((ran.stop, ran.count), (Stop::ResultRange, 2));
+    assert_eq!(cabinet.machine().stack(), [65_535, 1]);
     // 1 rotated by 1
     let (ran, cabinet) = stopped(&[1, 1, 0xBD, 0xC4], 9);
     assert_eq!(
@@ -70,6 +71,35 @@ fn marked_cases() {
         (Stop::Program(32_768), 32_768, 3)
     );
     assert_eq!(cabinet.machine().stack(), [32_768]);
+}
+
+/// UADD, USUB and UMUL at both bounds of 0 to 65,535: the result, which TRAP shows as its code, or 37 with both words still on the stack.
+#[test]
+fn unsigned_results() {
+    for (opcode, c, a, result) in [
+        (0o270, 65_534u16, 1u16, Some(65_535)),
+        (0o270, 65_535, 1, None),
+        (0o270, 65_535, 65_535, None),
+        (0o271, 5, 5, Some(0)),
+        (0o271, 4, 5, None),
+        (0o271, 0, 65_535, None),
+        (0o272, 255, 257, Some(65_535)),
+        (0o272, 256, 256, None),
+        (0o272, 65_535, 65_535, None),
+    ] {
+        let words = [c.to_be_bytes(), a.to_be_bytes()];
+        let code = [&[0x12], &words[0][..], &[0x12], &words[1], &[opcode, 0xC4]].concat();
+        let (ran, cabinet) = stopped(&code, 9);
+        match result {
+            Some(word) => assert_eq!((ran.stop, ran.count), (Stop::Program(word), 3)),
+            None => {
+                assert_eq!((ran.stop, ran.count), (Stop::ResultRange, 2));
+                assert_eq!(cabinet.machine().stack(), [c, a]);
+            }
+        }
+    }
+    assert_eq!(Stop::ResultRange.number(), 37);
+    assert_eq!(Stop::ResultRange.to_string(), "result range");
 }
 
 #[test]

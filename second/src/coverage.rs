@@ -1,6 +1,7 @@
 //! What generated cases reach: opcodes, traps of opcodes, refusals, what A.2
 //! makes of result counts, what A.3 makes of code that is not whole, what
-//! collides in transfers, and what A.5 makes of saved depths.
+//! collides in transfers, what A.5 makes of saved depths, and what A.6 makes of
+//! unsigned results.
 
 use crate::case::{replay, Case};
 use crate::exec::Observer;
@@ -13,6 +14,7 @@ use crate::pair::first_address;
 use crate::results::Results;
 use crate::saved::Expressions;
 use crate::transfers::Transfers;
+use crate::unsigned::Unsigned;
 use crate::whole::Whole;
 use std::fmt::Write;
 
@@ -33,6 +35,7 @@ pub struct Coverage {
     transfers: Transfers,
     expressions: Expressions,
     lent_maps: LentMaps,
+    unsigned: Unsigned,
     cases: u64,
 }
 
@@ -90,10 +93,11 @@ fn possible_stops(opcode: u8) -> &'static [u8] {
         0o256 => &[ADDRESS, PROCESS],
         0o260 => &[RETURN_MARK],
         0o262 => &[STACK_LIMIT],
+        0o270..=0o272 => &[RESULT_RANGE],
         0o273 | 0o274 => &[DIVISOR],
         0o304 => &[PROGRAM],
-        0o316 | 0o317 | 0o330..=0o332 => &[SIGNED_RANGE],
-        0o333 => &[DIVISOR, SIGNED_RANGE],
+        0o316 | 0o317 | 0o330..=0o332 => &[RESULT_RANGE],
+        0o333 => &[DIVISOR, RESULT_RANGE],
         0o350 | 0o351 => &[ADDRESS],
         0o353 | 0o355 | 0o356 | 0o360..=0o377 => &[STACK_LIMIT],
         0o354 => &[ENDED, RETURN_MARK],
@@ -117,6 +121,7 @@ impl Coverage {
             transfers: Transfers::default(),
             expressions: Expressions::default(),
             lent_maps: LentMaps::default(),
+            unsigned: Unsigned::default(),
             cases: 0,
         };
         cases.for_each(|case| coverage.add(&case));
@@ -133,6 +138,7 @@ impl Coverage {
         self.transfers.add(case, &outcome);
         self.expressions.add(case, &outcome);
         self.lent_maps.add(case, &outcome);
+        self.unsigned.add(case, &outcome);
         for run in outcome.runs {
             let answer = run.answer;
             match answer.number {
@@ -201,13 +207,14 @@ impl Coverage {
         faults
     }
 
-    /// What was reached of A.2, of A.3, of transfers and of A.5.
+    /// What was reached of A.2, of A.3, of transfers, of A.5 and of A.6.
     fn kinds(&self) -> impl Iterator<Item = Line> {
         let mut lines = self.results.lines();
         lines.extend(self.whole.lines());
         lines.extend(self.transfers.lines());
         lines.extend(self.expressions.lines());
         lines.extend(self.lent_maps.lines());
+        lines.extend(self.unsigned.lines());
         lines.into_iter()
     }
 

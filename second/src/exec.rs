@@ -193,12 +193,12 @@ pub fn execute<O: Observer>(
             pc += 1;
         }};
     }
-    // The same for signed words; None is trap 37.
-    macro_rules! signed {
+    // A result, or None where no word holds it: trap 37.
+    macro_rules! in_range {
         ($result:expr) => {
             match $result {
                 Some(result) => result as u16,
-                None => break (number::SIGNED_RANGE, 0),
+                None => break (number::RESULT_RANGE, 0),
             }
         };
     }
@@ -413,11 +413,12 @@ pub fn execute<O: Observer>(
                 pc += 1;
             }
 
-            // "270, 271, 272: c plus, minus, times a modulo 65,536. 273, 274
-            // quotient, remainder; a = 0 is trap 36."
-            0o270 => two!(|c, a| c.wrapping_add(a)),
-            0o271 => two!(|c, a| c.wrapping_sub(a)),
-            0o272 => two!(|c, a| c.wrapping_mul(a)),
+            // "270, 271, 272: c plus, minus, times a [...] 273, 274 quotient,
+            // remainder; a = 0 is trap 36." A.6: "UADD, USUB and UMUL give trap
+            // 37 when the true result lies outside 0 to 65,535."
+            0o270 => two!(|c, a| in_range!(c.checked_add(a))),
+            0o271 => two!(|c, a| in_range!(c.checked_sub(a))),
+            0o272 => two!(|c, a| in_range!(c.checked_mul(a))),
             0o273 => {
                 divisor!(word!(1));
                 two!(|c, a| c / a)
@@ -436,15 +437,15 @@ pub fn execute<O: Observer>(
             // "Signed: 330–333 add, subtract, multiply, divide toward zero;
             // 316 absolute, 317 negate. Zero divisor: 36; a result outside
             // −32,768 to 32,767: 37."
-            0o330 => two!(|c, a| signed!((c as i16).checked_add(a as i16))),
-            0o331 => two!(|c, a| signed!((c as i16).checked_sub(a as i16))),
-            0o332 => two!(|c, a| signed!((c as i16).checked_mul(a as i16))),
+            0o330 => two!(|c, a| in_range!((c as i16).checked_add(a as i16))),
+            0o331 => two!(|c, a| in_range!((c as i16).checked_sub(a as i16))),
+            0o332 => two!(|c, a| in_range!((c as i16).checked_mul(a as i16))),
             0o333 => {
                 divisor!(word!(1));
-                two!(|c, a| signed!((c as i16).checked_div(a as i16)))
+                two!(|c, a| in_range!((c as i16).checked_div(a as i16)))
             }
-            0o316 => one!(|a| signed!((a as i16).checked_abs())),
-            0o317 => one!(|a| signed!((a as i16).checked_neg())),
+            0o316 => one!(|a| in_range!((a as i16).checked_abs())),
+            0o317 => one!(|a| in_range!((a as i16).checked_neg())),
             // "310, 311 equal, unequal; 312–315 <, ≤, >, ≥."
             0o310 => two!(|c, a| u16::from(c == a)),
             0o311 => two!(|c, a| u16::from(c != a)),
@@ -670,7 +671,7 @@ fn pair(store: &[u16], first: u16) -> Option<(usize, usize)> {
 }
 
 /// The number whose high and low word these are.
-fn double(high: u16, low: u16) -> u32 {
+pub fn double(high: u16, low: u16) -> u32 {
     u32::from(high) << 16 | u32::from(low)
 }
 

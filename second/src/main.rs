@@ -24,7 +24,7 @@ usage: second reading [FILE]
        second coverage [--small] [--seed N] [--cases N]
            replay generated cases and print what they reach; exit 1 if an
            opcode, a stop, a refusal, a collision of a transfer or a kind of
-           A.2, A.3 or A.5 is missing
+           A.2, A.3, A.5 or A.6 is missing
        second coverage CASES
            the same for the cases of a file
        second cases [--small] [--seed N] [--count N] OUT
@@ -241,11 +241,12 @@ fn least_time(mut work: impl FnMut()) -> f64 {
     (0..10).map(time).fold(f64::INFINITY, f64::min)
 }
 
-/// Times the loop `LLW4 LI1 UADD SLW4 JPB`, and load, a refusal of load and run's
-/// tests of one of the longest images.
+/// Times the loop `LLW4 LI0 UADD SLW4 JPB`, and load, a refusal of load and run's
+/// tests of one of the longest images. The loop adds 0, so that its sum never
+/// leaves the range.
 fn speed() -> Answer {
     const STEPS: u32 = 20_000_000;
-    let code = [0o353, 1, 0o044, 0o001, 0o270, 0o064, 0o035, 5];
+    let code = [0o353, 1, 0o044, 0o000, 0o270, 0o064, 0o035, 5];
     let step = time_run(&[Source::plain(&code)], STEPS).1 / f64::from(STEPS);
     let mut code = vec![0o336; 32_761];
     code[32_760] = 0o354;

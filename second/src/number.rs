@@ -44,8 +44,9 @@ pub const RETURN_MARK: u8 = 34;
 pub const PROCESS: u8 = 35;
 /// "36 divisor"
 pub const DIVISOR: u8 = 36;
-/// "37 signed range"
-pub const SIGNED_RANGE: u8 = 37;
+/// "37 signed range", and A.6: "UADD, USUB and UMUL give trap 37": a result that
+/// no word holds, signed outside −32,768 to 32,767 or unsigned outside 0 to 65,535
+pub const RESULT_RANGE: u8 = 37;
 /// "38 check"
 pub const CHECK: u8 = 38;
 /// "39 channel"

@@ -30,7 +30,7 @@ pub fn stop(fd: i32, number: u16) -> bool {
         34 => io::write_all(fd, b"return mark"),
         35 => io::write_all(fd, b"process"),
         36 => io::write_all(fd, b"divisor"),
-        37 => io::write_all(fd, b"signed range"),
+        37 => io::write_all(fd, b"result range"),
         38 => io::write_all(fd, b"check"),
         39 => io::write_all(fd, b"channel"),
         40 => io::write_all(fd, b"program"),

@@ -16,7 +16,7 @@ use Rattle.mcode.specs.Run.{RunEnd, after, runN, lentTo, refused, stopped as en
 use Rattle.mcode.specs.Demands.{Preserves}
 use Rattle.mcode.specs.declared.Machine.{Machine}
 use Rattle.mcode.specs.declared.Stop.{Stop}
-use Rattle.mcode.specs.declared.Stop.the-variants.{Spent, Ended, BadAddress, StackLimit, ReturnMark, BadProcess, ZeroDivisor, SignedRange, CheckFailed, BadChannel, Program}
+use Rattle.mcode.specs.declared.Stop.the-variants.{Spent, Ended, BadAddress, StackLimit, ReturnMark, BadProcess, ZeroDivisor, ResultRange, CheckFailed, BadChannel, Program}
 use Rattle.mcode.proofs.Compose as compose
 use Rattle.mcode.proofs.Points.{preserves}
 use Rattle.mcode.proofs.Standing.{good-of}
@@ -39,7 +39,7 @@ stop-back StackLimit = refl
 stop-back ReturnMark = refl
 stop-back BadProcess = refl
 stop-back ZeroDivisor = refl
-stop-back SignedRange = refl
+stop-back ResultRange = refl
 stop-back CheckFailed = refl
 stop-back BadChannel = refl
 stop-back (Program code) = refl

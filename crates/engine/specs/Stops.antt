@@ -3,7 +3,7 @@ use Prim.Native.Nat.{ℕ}
 use lib.Dec.{eqb}
 use Rattle.mcode.specs.Word.{pick}
 use Rattle.mcode.specs.declared.Stop.{Stop}
-use Rattle.mcode.specs.declared.Stop.the-variants.{Spent, Ended, BadAddress, StackLimit, ReturnMark, BadProcess, ZeroDivisor, SignedRange, CheckFailed, BadChannel, Program}
+use Rattle.mcode.specs.declared.Stop.the-variants.{Spent, Ended, BadAddress, StackLimit, ReturnMark, BadProcess, ZeroDivisor, ResultRange, CheckFailed, BadChannel, Program}
 
 unfoldable pub stopOf : ℕ → ℕ → Stop
 stopOf n code =
@@ -14,7 +14,7 @@ stopOf n code =
     (pick (eqb n 34) ReturnMark
     (pick (eqb n 35) BadProcess
     (pick (eqb n 36) ZeroDivisor
-    (pick (eqb n 37) SignedRange
+    (pick (eqb n 37) ResultRange
     (pick (eqb n 38) CheckFailed
     (pick (eqb n 39) BadChannel
     (Program code))))))))))

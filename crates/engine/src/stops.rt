@@ -15,7 +15,7 @@ pub fn stop_of(number: u32, code: u16) -> Stop
         34 => Stop::ReturnMark,
         35 => Stop::BadProcess,
         36 => Stop::ZeroDivisor,
-        37 => Stop::SignedRange,
+        37 => Stop::ResultRange,
         38 => Stop::CheckFailed,
         39 => Stop::BadChannel,
         _ => Stop::Program(code),

@@ -10,7 +10,7 @@ use borrow.Author.Tests.{eqb-true, eqb-false}
 use Rattle.mcode.specs.Word.{pick}
 use Rattle.mcode.specs.Machine.{State, Outcome, go, halt, stopNumber, stopCode}
 use Rattle.mcode.specs.declared.Stop.{Stop}
-use Rattle.mcode.specs.declared.Stop.the-variants.{Spent, Ended, BadAddress, StackLimit, ReturnMark, BadProcess, ZeroDivisor, SignedRange, CheckFailed, BadChannel, Program as OfProgram}
+use Rattle.mcode.specs.declared.Stop.the-variants.{Spent, Ended, BadAddress, StackLimit, ReturnMark, BadProcess, ZeroDivisor, ResultRange, CheckFailed, BadChannel, Program as OfProgram}
 use Rattle.mcode.specs.Step.{Lent, stepOf}
 use Rattle.actions.specs.Core.{Left, leftBy}
 use Rattle.execute.specs.Stepping.{turned}
@@ -23,7 +23,7 @@ a-stop StackLimit z = omega (arith, z)
 a-stop ReturnMark z = omega (arith, z)
 a-stop BadProcess z = omega (arith, z)
 a-stop ZeroDivisor z = omega (arith, z)
-a-stop SignedRange z = omega (arith, z)
+a-stop ResultRange z = omega (arith, z)
 a-stop CheckFailed z = omega (arith, z)
 a-stop BadChannel z = omega (arith, z)
 a-stop (OfProgram n) z = omega (arith, z)

@@ -47,7 +47,7 @@ all-hold (c ∷ cs) t = (holds (c .image) (c .budget) (c .expected) (t .0), all-
 
 computed : AllComputed cases
 unfolding allBelow anyBelow oneOf twoOf threeOf doubleOf lengths takens lefts byteAt wordAt skipAt bitsAt dataAt countAt nameAt lengthAt limitedAt recordAt recordsAt bodyAt moduleAt refusedBy modulesFrom parse inCode fits markOf depthOf promised saves listOf frontOf isList isMark passed stored fetched leaves permits depthFlow target jumps calls callsIn onward flowAt marked mapFits isMachine row1 row2 row3 loads stores row8 row9 row10 row11 row12 row13 row14 row15 decodeOf followed call unitOf backTo returned isProcess saved restored written savedStore restoredMachine switched transferred stackSaved stackFetched performOf stepOf runN runRefusal runOf startRefusal startStore startMachine startOf deskOf gather entered forced member leastTest other wrong anyWrong clashTest acceptTest setFrom setOf wholeTest unfitTest brokenTest ways waysAt legible named causeAt wholeAt
-computed = ((refl, refl, refl), ((refl, refl, refl), ((refl, refl, refl), ((refl, refl, refl), ((refl, refl, refl), ((refl, refl, refl), ((refl, refl, refl), ((refl, refl, refl), ((refl, refl, refl), ((refl, refl, refl), ((refl, refl, refl), ((refl, refl, refl), ((refl, refl, refl), ((refl, refl, refl), ((refl, refl, refl), ((refl, refl, refl), ((refl, refl, refl), ((refl, refl, refl), ((refl, refl, refl), ((refl, refl, refl), ((refl, refl, refl), tt)))))))))))))))))))))
+computed = ((refl, refl, refl), ((refl, refl, refl), ((refl, refl, refl), ((refl, refl, refl), ((refl, refl, refl), ((refl, refl, refl), ((refl, refl, refl), ((refl, refl, refl), ((refl, refl, refl), ((refl, refl, refl), ((refl, refl, refl), ((refl, refl, refl), ((refl, refl, refl), ((refl, refl, refl), ((refl, refl, refl), ((refl, refl, refl), ((refl, refl, refl), ((refl, refl, refl), ((refl, refl, refl), ((refl, refl, refl), ((refl, refl, refl), ((refl, refl, refl), ((refl, refl, refl), ((refl, refl, refl), tt))))))))))))))))))))))))
 
 pub marked-cases : AllHold cases
 marked-cases = all-hold cases computed

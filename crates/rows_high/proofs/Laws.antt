@@ -39,18 +39,16 @@ pub is256 : (op : ℕ) → op < 256 → op / 16 ≡ 10 → 1 ≤ getD lengths op
 unfolding allBelow left among lengths
 is256 op = one-left (λ (op : ℕ). and (leb 0o252 op) (leb op 0o255)) (0o245 ∷ 0o241 ∷ 0o240 ∷ []) 10 0o256 op refl
 
-pub is262 : (op : ℕ) → op < 256 → op / 16 ≡ 11 → 1 ≤ getD lengths op 0 → op < 0o265 → (op ≡ 0o260 → ⊥) → op ≡ 0o262
+pub is265 : (op : ℕ) → op < 256 → op / 16 ≡ 11 → 1 ≤ getD lengths op 0 → op ≤ 0o267 → None (0o262 ∷ 0o260 ∷ []) op → op ≡ 0o265
 unfolding allBelow left among lengths
-is262 op h e l n m = one-left (λ (op : ℕ). leb 0o265 op) (0o260 ∷ []) 11 0o262 op refl h e l (lt-leb 0o265 op n) (tt, m)
+is265 op h e l n = one-left (λ (op : ℕ). ltb 0o267 op) (0o262 ∷ 0o260 ∷ []) 11 0o265 op refl h e l (le-ltb 0o267 op n)
 
-pub is265 : (op : ℕ) → op < 256 → op / 16 ≡ 11 → 1 ≤ getD lengths op 0 → op < 0o270 → 0o265 ≤ op → op ≡ 0o265
-unfolding allBelow left among lengths
-is265 op h e l high low =
-    one-left (λ (op : ℕ). pick (ltb op 0o265) true (leb 0o270 op)) [] 11 0o265 op refl h e l (rw (le-ltb op 0o265 low) (lt-leb 0o270 op high)) tt
+pub is273 : (op : ℕ) → 0o273 ≤ op → op < 0o275 → (op ≡ 0o274 → ⊥) → op ≡ 0o273
+is273 op l h n = omega (arith, n)
 
-pub is277 : (op : ℕ) → op < 256 → op / 16 ≡ 11 → 1 ≤ getD lengths op 0 → 0o273 ≤ op → None (0o276 ∷ 0o275 ∷ 0o274 ∷ 0o273 ∷ []) op → op ≡ 0o277
+pub is277 : (op : ℕ) → op < 256 → op / 16 ≡ 11 → 1 ≤ getD lengths op 0 → 0o275 ≤ op → None (0o276 ∷ 0o275 ∷ []) op → op ≡ 0o277
 unfolding allBelow left among lengths
-is277 op h e l n = one-left (λ (op : ℕ). ltb op 0o273) (0o276 ∷ 0o275 ∷ 0o274 ∷ 0o273 ∷ []) 11 0o277 op refl h e l (le-ltb op 0o273 n)
+is277 op h e l n = one-left (λ (op : ℕ). ltb op 0o275) (0o276 ∷ 0o275 ∷ []) 11 0o277 op refl h e l (le-ltb op 0o275 n)
 
 pub is306 : (op : ℕ) → op < 256 → op / 16 ≡ 12 → 1 ≤ getD lengths op 0 → op < 0o310 → None (0o305 ∷ 0o304 ∷ []) op → op ≡ 0o306
 unfolding allBelow left among lengths

@@ -36,27 +36,29 @@ pub fn row11(op: u8, r: Core, map: &[u32], stack: &mut [u16; 16], store: &mut [u
     ensures { λ q. ⌜ ((lent : Lent) (bytes numbers words : List ℕ) → Lends bytes numbers (now (map .entry)) words lent → Anchored numbers r → (o : ℕ → ℕ) (out : List ℕ) → result q (now (stack .exit)) (now (store .exit)) out ≡ instruction lent op o r (now (stack .entry)) (now (store .entry)) out) × Stays r (q .core) ⌝ }
 {
     let to = r.pc + 1;
-    if op < 0o270 {
-        if op < 0o265 {
-            return if op == 0o260 {
-                fetch(r, map, stack, store, to)
-            } else {
-                save(r, stack, store, to)
-            };
-        }
-        return copy(r, stack, to);
-    }
     if op < 0o273 {
-        return two(
-            r,
-            stack,
-            sums(op, second_of(r, stack), top_of(r, stack)),
-            to,
-        );
+        if 0o267 < op {
+            return two(
+                r,
+                stack,
+                sums(op, second_of(r, stack), top_of(r, stack)),
+                to,
+            );
+        }
+        return match op {
+            0o260 => fetch(r, map, stack, store, to),
+            0o262 => save(r, stack, store, to),
+            _ => copy(r, stack, to),
+        };
+    }
+    if op < 0o275 {
+        return if op == 0o274 {
+            two(r, stack, rem(second_of(r, stack), top_of(r, stack)), to)
+        } else {
+            two(r, stack, div(second_of(r, stack), top_of(r, stack)), to)
+        };
     }
     match op {
-        0o273 => two(r, stack, div(second_of(r, stack), top_of(r, stack)), to),
-        0o274 => two(r, stack, rem(second_of(r, stack), top_of(r, stack)), to),
         0o275 => replace_two(r, stack, rotate(second_of(r, stack), top_of(r, stack)), to),
         0o276 => replace_two(r, stack, shl(second_of(r, stack), top_of(r, stack)), to),
         _ => replace_two(r, stack, shr(second_of(r, stack), top_of(r, stack)), to),

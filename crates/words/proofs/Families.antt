@@ -8,10 +8,13 @@ use native.Mathlib.Omega.{arith}
 use borrow.Author.Tests.{lt-ltb, le-ltb, le-leb, lt-leb, ne-eqb, ltb-true, ltb-false, eqb-true, eqb-false}
 use lib.Dec.{eqb, ltb, leb}
 use lib.Bits.{bitAnd, bitOr, bitXor}
-use Rattle.mcode.specs.Word.{pick, truth, wrap, twoOf}
+use lib.IntN.{pos}
+use Rattle.mcode.specs.Word.{pick, truth, wrap, settleUnsigned, twoOf}
 use Rattle.mcode.specs.declared.Value.the-variants.{Is}
 use Rattle.words.specs.Sides.{answer}
+use Rattle.words.specs.Wide.{wideDifference}
 use Rattle.words.proofs.Order.{raised-order}
+use Rattle.words.proofs.Results.{difference-settles}
 
 -- a statement of n numbers from k on, one by one
 abbrev pub Each : (ℕ → Type 0) → ℕ → ℕ → Type 0
@@ -22,15 +25,17 @@ pub each : (P : ℕ → Type 0) (n k : ℕ) → Each P n k → (op : ℕ) → k 
 each P zero k t op h l = absurd (omega arith)
 each P (suc n) k t op h l = ⊎-elim (λ q. subst P q (t .0)) (λ m. each P n (suc k) (t .1) op m (omega arith)) (eq-or-lt-of-le h)
 
--- one of three words by opcodes that follow one another
+-- one of three numbers by opcodes that follow one another
 abbrev selected : ℕ → ℕ → ℕ → ℕ → ℕ → ℕ
 selected first x y z op = pick {A = ℕ} (eqb op (first + 2)) z (pick {A = ℕ} (eqb op (first + 1)) y x)
 
 -- 270 to 272
-pub sums-word : (c a op : ℕ) → 0o270 ≤ op → op ≤ 0o272 → Is (selected 0o270 (wrap (c + a)) (wrap (c + (65536 - a))) (wrap (c * a)) op) ≡ twoOf op c a
+pub sums-word : (c a : ℕ) → c < 65536 → a < 65536 → (op : ℕ) → 0o270 ≤ op → op ≤ 0o272
+    → settleUnsigned (pos (selected 0o270 (c + a) (wideDifference c a) (c * a) op)) ≡ twoOf op c a
 unfolding twoOf
-sums-word c a op l h =
-    each (λ (op : ℕ). Is (selected 0o270 (wrap (c + a)) (wrap (c + (65536 - a))) (wrap (c * a)) op) ≡ twoOf op c a) 3 0o270 (refl, (refl, (refl, tt))) op l (omega arith)
+sums-word c a hc ha op l h =
+    each (λ (op : ℕ). settleUnsigned (pos (selected 0o270 (c + a) (wideDifference c a) (c * a) op)) ≡ twoOf op c a) 3 0o270
+    (refl, (difference-settles c a hc ha, (refl, tt))) op l (omega arith)
 
 -- 320 to 322
 pub bits-word : (c a op : ℕ) → 0o320 ≤ op → op ≤ 0o322 → Is (selected 0o320 (bitOr c a) (bitXor c a) (bitAnd c a) op) ≡ twoOf op c a

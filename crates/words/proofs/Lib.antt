@@ -1,3 +1,4 @@
 pub mod Families
 pub mod Numbers
 pub mod Order
+pub mod Results

@@ -22,3 +22,10 @@ pub fn chosen(b: bool, x: u16, y: u16) -> u16
 {
     if b { x } else { y }
 }
+
+// The same of numbers of 64 bits.
+fn chosen_wide(b: bool, x: u64, y: u64) -> u64
+    ensures { λ r. ⌜ r ≡ W.pick {A = ℕ} b x y ⌝ }
+{
+    if b { x } else { y }
+}

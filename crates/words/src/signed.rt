@@ -36,10 +36,10 @@ fn settled(z: i32) -> Value
     ensures { λ r. ⌜ r ≡ W.settle z ⌝ }
 {
     if z < -32768 {
-        return Value::Fault(Stop::SignedRange);
+        return Value::Fault(Stop::ResultRange);
     }
     if 32767 < z {
-        return Value::Fault(Stop::SignedRange);
+        return Value::Fault(Stop::ResultRange);
     }
     Value::Is(bits_of(z as i16))
 }
@@ -86,7 +86,7 @@ pub fn div(c: u16, a: u16) -> Value
     }
     if c == 32768 {
         if a == 65535 {
-            Value::Fault(Stop::SignedRange)
+            Value::Fault(Stop::ResultRange)
         } else {
             quotient(c, a)
         }
@@ -100,7 +100,7 @@ pub fn neg(a: u16) -> Value
     ensures { λ r. ⌜ r ≡ W.settle (negℤ (W.signed a)) ⌝ }
 {
     if a == 32768 {
-        Value::Fault(Stop::SignedRange)
+        Value::Fault(Stop::ResultRange)
     } else {
         Value::Is(bits_of(-signed_of(a)))
     }

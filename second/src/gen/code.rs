@@ -5,6 +5,7 @@
 //! back to its start is put where it belongs.
 
 use super::rng::Rng;
+use super::unsigned::operands_inside;
 use crate::assemble::Source;
 use crate::depths::MOST_RESTORED;
 use crate::image::{Procedure, ONLY_PROCEDURE};
@@ -440,6 +441,12 @@ impl Writer<'_> {
                 let value = small(self.rng);
                 self.literal(value);
                 self.literal(value + 1);
+            }
+            // Results inside 0 to 65,535, but for any words now and then.
+            UADD | USUB | UMUL if self.careful || !self.rng.once_in(8) => {
+                let (c, a) = operands_inside(self.rng, opcode);
+                self.literal(c);
+                self.literal(a);
             }
             // Small numbers for the signed ones and the divisions.
             0o273 | 0o274 | 0o316 | 0o317 | 0o330..=0o333 => {

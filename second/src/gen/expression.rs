@@ -3,10 +3,12 @@
 
 use super::code::{program, some_word};
 use super::rng::Rng;
-use super::saved::{add_nested, add_unfit, flawed_code, flawed_entry, some_depths, unfit};
+use super::saved::{
+    add_nested, add_unfit, flawed_code, flawed_entry, some_depths, unfit, NESTED_OPERATORS,
+};
 use super::state::{set_saved, World};
 use super::{add_procedure, any_shape, case_of, plain_run, positions_in_a_row, Scale};
-use crate::api;
+use crate::api::{self, RunAnswer};
 use crate::assemble::{encode, Source};
 use crate::case::{Case, CaseRun};
 use crate::depths::first_marks;
@@ -14,6 +16,7 @@ use crate::image::{parse, Procedure};
 use crate::lent::{Rule, DEPTH, FLAWS};
 use crate::machine::Machine;
 use crate::mark::{Mark, Saved, MOST_SAVED, UNMARKED};
+use crate::number::RESULT_RANGE;
 use crate::opcode::{JPB, LODFW, RTN, TRAP};
 
 /// The words of a small store.
@@ -139,7 +142,8 @@ pub fn lent_fronts_case(rng: &mut Rng) -> Case {
 }
 
 /// Words are saved and restored step by step. Before a LODFW they, their count
-/// or S may be altered.
+/// or S may be altered. Where that makes a result outside 0 to 65,535, it goes on
+/// with 0 in place of the top word.
 pub fn saved_words_case(rng: &mut Rng) -> Case {
     let mut modules = [Source::plain(&[RTN])];
     let count = rng.within(1, MOST_SAVED);
@@ -157,13 +161,16 @@ pub fn saved_words_case(rng: &mut Rng) -> Case {
         run.machine = handed.take();
         let mark = machine.mark(&program, &map).expect("it stands at a mark");
         let moved = rest[0] == LODFW && alter_saved(rng, &store, mark.saved, machine, &mut run);
-        let made = make(&case.image, &map, &mut store, machine, &run);
+        let answer = make(&case.image, &map, &mut store, machine, &run);
         case.runs.push(run);
-        if moved {
-            handed = Some(machine);
-        } else {
-            machine = made;
+        let stopped = answer.number == RESULT_RANGE;
+        if !moved {
+            machine = answer.machine;
         }
+        if stopped {
+            machine.stack[usize::from(machine.depth) - 1] = 0;
+        }
+        handed = (moved || stopped).then_some(machine);
         if rest[0] == TRAP {
             break;
         }
@@ -173,12 +180,18 @@ pub fn saved_words_case(rng: &mut Rng) -> Case {
 
 /// The literals and operators at the beginning of a code.
 fn plain_steps(code: &[u8]) -> usize {
-    let plain = |opcode: &&u8| matches!(**opcode, 0o000..=0o017 | 0o270 | 0o271 | 0o321);
+    let plain = |opcode: &&u8| **opcode < 16 || NESTED_OPERATORS.contains(opcode);
     code.iter().take_while(plain).count()
 }
 
-/// Makes a run; answers the machine after it.
-fn make(image: &[u8], map: &[u32], store: &mut [u16], machine: Machine, run: &CaseRun) -> Machine {
+/// Makes a run.
+fn make(
+    image: &[u8],
+    map: &[u32],
+    store: &mut [u16],
+    machine: Machine,
+    run: &CaseRun,
+) -> RunAnswer {
     for &(address, word) in &run.store_patches {
         store[usize::from(address)] = word;
     }
@@ -193,7 +206,6 @@ fn make(image: &[u8], map: &[u32], store: &mut [u16], machine: Machine, run: &Ca
         &inputs,
         run.budget,
     )
-    .machine
 }
 
 /// Alters what a LODFW will find, or nothing; a count that is wrong is set right

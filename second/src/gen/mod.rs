@@ -6,6 +6,7 @@ mod fault;
 pub mod rng;
 mod saved;
 mod state;
+mod unsigned;
 
 use crate::api;
 use crate::assemble::{encode, Source};
@@ -80,7 +81,7 @@ pub const SMALL: Scale = Scale {
 };
 
 /// The cases of a round, each of a kind of its own or one of several.
-pub const ROUND: u64 = 40;
+pub const ROUND: u64 = 41;
 
 /// One case of a seed.
 pub fn case(scale: &Scale, seed: u64, index: u64) -> Case {
@@ -115,6 +116,7 @@ pub fn case(scale: &Scale, seed: u64, index: u64) -> Case {
         37 => expression::unfit_case(rng, scale, round as usize),
         38 => expression::flawed_entries_case(rng, scale, round as usize),
         39 => expression::unfit_marks_case(rng, round as usize),
+        40 => unsigned::turn_case(rng, scale, round as usize),
         _ => sizes_case(rng, scale),
     };
     keep_inputs(rng, scale, &mut case.runs);

@@ -45,18 +45,38 @@ fn nested(rng: &mut Rng, module: usize, function: usize, count: usize) -> Vec<u8
     if rng.once_in(4) {
         *depths.last_mut().expect("at least one") = MOST;
     }
-    let mut code = stores(rng, &depths);
-    code.push(rng.below(16) as u8);
-    for &depth in depths.iter().rev() {
+    let saved = stores(rng, &depths);
+    let mut result = rng.below(16) as u8;
+    let mut code = [&saved[..], &[result]].concat();
+    // Behind the last STORE there are no words.
+    for words in saved.split(|&opcode| opcode == STORE).rev().skip(1) {
         code.extend(some_call(rng, module, function));
-        if depth == MOST {
+        if words.len() == MOST.into() {
             break;
         }
         code.push(LODFW);
-        code.extend((0..depth).map(|_| rng.pick(&[0o270, 0o271, 0o321])));
+        result = add_operators(rng, &mut code, words, result);
     }
     code.push(TRAP);
     code
+}
+
+/// The operators of [`nested`].
+pub const NESTED_OPERATORS: [u8; 4] = [UADD, USUB, XOR, AND];
+
+/// Operators that make one word of these and a result above them. None goes below
+/// 0 or above a byte. Answers that word.
+fn add_operators(rng: &mut Rng, code: &mut Vec<u8>, words: &[u8], result: u8) -> u8 {
+    words.iter().rev().fold(result, |a, &c| {
+        let results = [c.checked_add(a), c.checked_sub(a), Some(c ^ a), Some(c & a)];
+        let both = NESTED_OPERATORS.into_iter().zip(results);
+        let inside: Vec<(u8, u8)> = both
+            .filter_map(|(it, result)| Some((it, result?)))
+            .collect();
+        let (operator, result) = rng.pick(&inside);
+        code.push(operator);
+        result
+    })
 }
 
 /// Depths that can be restored.

@@ -3,6 +3,7 @@
 
 use super::code::{program, some_double, some_word, Shape, PROCESS_NAMES, PROCESS_NAME_COUNT};
 use super::rng::Rng;
+use super::unsigned::any_operands;
 use crate::api;
 use crate::assemble::{encode, Source};
 use crate::case::CaseRun;
@@ -315,6 +316,11 @@ impl World {
                 let high = some_word(rng);
                 set(1, high);
                 set(2, high.wrapping_add(rng.below(5) as u16).wrapping_sub(3));
+            }
+            UADD | USUB | UMUL => {
+                let (c, a) = any_operands(rng, opcode);
+                set(1, a);
+                set(2, c);
             }
             0o273 | 0o274 => set(1, rng.below(3) as u16),
             0o330..=0o333 => {

@@ -153,6 +153,8 @@ fn small_cases_and_their_coverage() {
     let output = write("1");
     assert_eq!(output.status.code(), Some(1));
     assert!(text(&output.stdout).contains("missing: load never answered 8\n"));
+    let sum = "missing: no stops of UADD with 37 with the result 65536\n";
+    assert!(text(&output.stdout).contains(sum));
 }
 
 #[test]
@@ -164,6 +166,8 @@ fn coverage_that_misses_something_fails() {
     assert!(text(&output.stdout).contains(narrower));
     let fault = "missing: no images refused with 13 for unlisted opcode\n";
     assert!(text(&output.stdout).contains(fault));
+    let carry = "missing: opcode 270 UADD never stopped with 37\n";
+    assert!(text(&output.stdout).contains(carry));
 }
 
 #[test]

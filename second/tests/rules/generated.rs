@@ -40,6 +40,8 @@ fn everything_is_covered() {
     assert!(faults.contains(&"run never answered 12".to_string()));
     let ending = |end: &str| faults.iter().filter(|f| f.ends_with(end)).count();
     assert_eq!(ending("executed"), 200);
+    // The signed operators, and UADD, USUB and UMUL.
+    assert_eq!(ending("never stopped with 37"), 6 + 3);
     // Each load and store of a pair fails by either address.
     let cut = "opcode 041 LLD never stopped with 32 by its second address alone";
     assert!(faults.contains(&cut.to_string()));
@@ -84,6 +86,13 @@ fn everything_is_covered() {
     // Ten collisions of transfers, with three sizes of either stack.
     assert_eq!(beginning("no transfers that restore "), 3 * 10);
     assert_eq!(beginning("no transfers that save "), 3 * 10);
+    // What A.6 makes of unsigned results; of products also two low words.
+    for (name, low_words) in [("UADD", 0), ("USUB", 0), ("UMUL", 2)] {
+        assert_eq!(beginning(&format!("no steps of {name} ")), 3);
+        let stops = beginning(&format!("no stops of {name} with 37 "));
+        assert_eq!(stops, 3 + low_words);
+    }
+    assert_eq!(beginning("no steps with a sum that goes round at "), 6);
 }
 
 /// A module, and entry, parameters and results of its procedures.
@@ -104,7 +113,7 @@ pub fn case_of(procedures: &[(u16, u8, u8)], code: &[u8], runs: &[CaseRun]) -> C
     case_of_modules(&[module_of(procedures, code)], runs)
 }
 
-fn case_of_modules(modules: &[Source], runs: &[CaseRun]) -> Case {
+pub fn case_of_modules(modules: &[Source], runs: &[CaseRun]) -> Case {
     let image = assemble::encode(modules);
     let mut runs = runs.to_vec();
     runs.iter_mut().for_each(|run| run.inputs = vec![0; 16]);
@@ -606,6 +615,85 @@ fn carries_and_borrows_are_generated() {
         }
     }
     assert!(seen.iter().flatten().all(|&count| count > 0), "{seen:?}");
+}
+
+/// The cases of A.6 in four rounds: one for each operator, and one of sums that go
+/// round.
+fn cases_of_results(scale: &Scale, seed: u64) -> impl Iterator<Item = Case> + '_ {
+    (0..4).map(move |round| gen::case(scale, seed, ROUND * round + 40))
+}
+
+/// What cases miss of A.6: three kinds of steps and three of stops of UADD, the
+/// same of USUB and UMUL, two low words, and six sums.
+fn missing_results(cases: impl Iterator<Item = Case>) -> Vec<String> {
+    let mut missing = Coverage::of(cases).faults();
+    let lines = ["no steps of U", "no stops of U", "no steps with a sum"];
+    missing.retain(|fault| lines.iter().any(|line| fault.starts_with(line)));
+    missing
+}
+
+/// They have every kind, whatever the seed.
+#[test]
+fn unsigned_results_are_generated() {
+    let seeds = (1..=24).map(|seed| (&SMALL, seed));
+    for (scale, seed) in seeds.chain([(&FULL, 1)]) {
+        let missing = missing_results(cases_of_results(scale, seed));
+        assert_eq!(missing, [""; 0], "seed {seed}");
+    }
+}
+
+/// Without the runs of one kind, this kind alone is missing.
+#[test]
+fn unsigned_results_are_needed() {
+    let all = missing_results([].into_iter());
+    assert_eq!(all.len(), 3 * 6 + 2 + 6);
+    let check = |round: usize, left_out: &[usize], expected: &[usize]| {
+        let mut cases: Vec<Case> = cases_of_results(&SMALL, SEED).collect();
+        let mut indices = 0..;
+        let kept = |_: &CaseRun| indices.next().is_some_and(|i| !left_out.contains(&i));
+        cases[round].runs.retain(kept);
+        let expected: Vec<String> = expected.iter().map(|&kind| all[kind].clone()).collect();
+        assert_eq!(missing_results(cases.into_iter()), expected, "{left_out:?}");
+    };
+    // The last run of UMUL is one more product between the first and the furthest,
+    // with the low word 0.
+    let runs: [&[usize]; 6] = [&[0], &[1], &[2], &[3], &[4, 6], &[5]];
+    for operator in 0..3 {
+        for (kind, left_out) in runs.iter().enumerate() {
+            check(operator, left_out, &[6 * operator + kind]);
+        }
+    }
+    check(2, &[3, 6], &[15, 18]);
+    check(2, &[4, 5], &[17, 19]);
+    // LGA, LEA, LLA, LSA, a literal, DADD, two literals, DSUB.
+    for (run, sum) in [(2, 20), (0, 21), (3, 22), (1, 23), (5, 24), (8, 25)] {
+        check(3, &[run], &[sum]);
+    }
+}
+
+/// 37 does not cut programs short: where UADD, USUB and UMUL are only the means,
+/// most go on, and words that are saved and restored step by step come to their
+/// TRAP.
+#[test]
+fn most_unsigned_results_are_inside() {
+    let (mut steps, mut stops) = ([0; 256], 0);
+    for (index, case) in gen::cases(&SMALL, SEED, 3008).enumerate() {
+        let kind = index as u64 % ROUND;
+        if !matches!(kind, 2..=6 | 16..=20 | 32..=36) {
+            continue;
+        }
+        let outcome = replay(&case, &mut steps);
+        let program = parse(&case.image).unwrap();
+        for run in outcome.runs.iter().filter(|run| run.answer.number == 37) {
+            let opcode = run.answer.machine.opcode(&program, &case.image);
+            stops += u64::from((0o270..=0o272).contains(&opcode));
+        }
+        if kind == 36 {
+            assert_eq!(outcome.runs.last().unwrap().answer.number, 40, "{index}");
+        }
+    }
+    let steps: u64 = steps[0o270..=0o272].iter().sum();
+    assert!(stops > 0 && steps > 10 * stops, "{steps} {stops}");
 }
 
 #[test]

@@ -239,12 +239,45 @@ fn arithmetic() -> Vec<Step> {
             steps.push(step(&[opcode], &[c, a], &[result]));
         }
     };
+    // Unsigned, up to both bounds of the range.
     binary(
         0o270,
-        &[(2, 3, 5), (65_535, 1, 0), (65_535, 65_535, 65_534)],
+        &[
+            (2, 3, 5),
+            (0, 0, 0),
+            (65_534, 1, 65_535),
+            (1, 65_534, 65_535),
+            (65_535, 0, 65_535),
+            (0, 65_535, 65_535),
+            (32_768, 32_767, 65_535),
+        ],
     );
-    binary(0o271, &[(5, 3, 2), (3, 5, 65_534), (0, 1, 65_535)]);
-    binary(0o272, &[(6, 7, 42), (256, 256, 0), (65_535, 65_535, 1)]);
+    binary(
+        0o271,
+        &[
+            (5, 3, 2),
+            (0, 0, 0),
+            (5, 5, 0),
+            (65_535, 65_535, 0),
+            (65_535, 0, 65_535),
+            (65_535, 1, 65_534),
+            (32_768, 32_767, 1),
+        ],
+    );
+    binary(
+        0o272,
+        &[
+            (6, 7, 42),
+            (0, 0, 0),
+            (0, 65_535, 0),
+            (65_535, 0, 0),
+            (65_535, 1, 65_535),
+            (1, 65_535, 65_535),
+            (255, 257, 65_535),
+            (21_845, 3, 65_535),
+            (2, 32_767, 65_534),
+        ],
+    );
     binary(0o273, &[(7, 2, 3), (2, 7, 0), (65_535, 2, 32_767)]);
     binary(0o274, &[(7, 2, 1), (2, 7, 2), (65_535, 256, 255)]);
     binary(
@@ -512,6 +545,126 @@ fn divisors_and_signed_range() {
     at_instruction(&[0o317], &[0x8000]).expect_stop(37, 0);
 }
 
+/// The instruction must stop with 37 at its least depth, and over other words up
+/// to 16, and leave everything as before.
+fn check_outside(opcode: u8, c: u16, a: u16) {
+    for below in [0, 14] {
+        let words = [vec![0xBEEF; below], vec![c, a]].concat();
+        at_instruction(&[opcode], &words).expect_stop(37, 0);
+    }
+}
+
+/// A.6: "UADD, USUB and UMUL give trap 37 when the true result lies outside 0 to
+/// 65,535." The first result outside, the furthest, and others.
+#[test]
+fn unsigned_range() {
+    for (c, a) in [
+        (65_535, 1),
+        (1, 65_535),
+        (32_768, 32_768),
+        (65_535, 2),
+        (40_000, 50_000),
+        (65_535, 65_534),
+        (65_535, 65_535),
+    ] {
+        check_outside(0o270, c, a);
+    }
+    for (c, a) in [
+        (0, 1),
+        (65_534, 65_535),
+        (32_767, 32_768),
+        (3, 5),
+        (1, 65_535),
+        (0, 65_535),
+    ] {
+        check_outside(0o271, c, a);
+    }
+    // Low words 0, 0, 0, 0; then others, above both factors too.
+    for (c, a) in [
+        (256, 256),
+        (2, 32_768),
+        (32_768, 2),
+        (32_768, 32_768),
+        (2, 32_769),
+        (65_535, 2),
+        (3, 30_000),
+        (65_535, 65_534),
+        (65_535, 65_535),
+    ] {
+        check_outside(0o272, c, a);
+    }
+}
+
+/// An operator, and the true result of c and a.
+type Operator = (u8, fn(i64, i64) -> i64);
+
+/// Each operator with all pairs of words near the bounds, against its true
+/// result.
+#[test]
+fn unsigned_results_are_true_or_37() {
+    const NEAR_BOUNDS: [u16; 14] = [
+        0, 1, 2, 3, 255, 256, 257, 21_845, 32_767, 32_768, 32_769, 65_533, 65_534, 65_535,
+    ];
+    let operators: [Operator; 3] = [
+        (0o270, |c, a| c + a),
+        (0o271, |c, a| c - a),
+        (0o272, |c, a| c * a),
+    ];
+    for (opcode, result) in operators {
+        for c in NEAR_BOUNDS {
+            for a in NEAR_BOUNDS {
+                match result(c.into(), a.into()) {
+                    result @ 0..=65_535 => step(&[opcode], &[c, a], &[result as u16]).check(),
+                    _ => check_outside(opcode, c, a),
+                }
+            }
+        }
+    }
+}
+
+/// A.6: "Address sums and the two-word sums still go round." So does 026; 276 and
+/// 265 have no sum. Addresses from L and G are below, those of pairs in `pairs`.
+#[test]
+fn other_sums_still_go_round() {
+    let load = |instruction: &[u8], before: &[u16], address: u16| {
+        step(instruction, before, &[0xA5C3]).memory(&[(address, 0xA5C3)])
+    };
+    let store = |instruction: &[u8], before: &[u16], address: u16| {
+        step(instruction, &[before, &[0x5A3C]].concat(), &[]).writes(&[(address, 0x5A3C)])
+    };
+    let steps = [
+        step(&[0o026, 1], &[65_535], &[0]),
+        step(&[0o026, 255], &[65_535], &[254]),
+        step(&[0o265], &[65_535], &[65_535, 65_535]),
+        step(&[0o276], &[65_535, 1], &[65_534]),
+        step(&[0o276], &[0x8000, 1], &[0]),
+        load(&[0o141], &[65_535], 0),
+        load(&[0o157], &[65_535], 14),
+        load(&[0o200, 255], &[65_535], 254),
+        load(&[0o206], &[65_535, 1], 0),
+        load(&[0o206], &[0x8000, 0x8000], 0),
+        store(&[0o161], &[65_535], 0),
+        store(&[0o177], &[65_535], 14),
+        store(&[0o220, 255], &[65_535], 254),
+        store(&[0o226], &[65_535, 1], 0),
+        store(&[0o226], &[0x8000, 0x8000], 0),
+        // Byte 3 of the string at 65,535 is the low byte of word 0.
+        step(&[0o205], &[65_535, 3], &[0x34]).memory(&[(0, 0x1234)]),
+        step(&[0o225], &[65_535, 3, 0xAB], &[])
+            .memory(&[(0, 0x1234)])
+            .writes(&[(0, 0x12AB)]),
+        // 4,294,967,295 + 1, and 0 − 1.
+        step(&[0o210], &[65_535, 65_535, 0, 1], &[0, 0]),
+        step(&[0o211], &[0, 0, 0, 1], &[65_535, 65_535]),
+        // A carry between the words, and a borrow.
+        step(&[0o210], &[0, 65_535, 0, 1], &[1, 0]),
+        step(&[0o211], &[1, 0, 0, 1], &[0, 65_535]),
+    ];
+    for step in steps {
+        step.check();
+    }
+}
+
 /// An instruction, and the words that make its address.
 type StackAddress = (&'static [u8], fn(u16) -> Vec<u16>);
 
@@ -683,6 +836,15 @@ fn global_addresses_wrap() {
     assert_eq!(rig.machine.p, 65_495);
     assert_eq!(rig.run(2).number, 30);
     assert_eq!(rig.stack(), [128], "the base copy at word 32");
+    // 025 and 027 put the sum, 65,535 and then 0.
+    for (b, sum) in [(43, 65_535), (44, 0), (76, 32)] {
+        for instruction in [&[0o025, b][..], &[0o027, 1, b]] {
+            let other = Source::plain(&[instruction, &[0o304]].concat());
+            let mut rig = Rig::new(&[main.clone(), other], 65_535);
+            assert_eq!(rig.run(2).number, 30);
+            assert_eq!(rig.stack(), [sum]);
+        }
+    }
     let mut rig = Rig::new(&[main, other(43)], 65_535);
     assert_eq!(rig.run(1).number, 30);
     rig.expect_stop(32, 0);

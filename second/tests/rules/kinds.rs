@@ -1,7 +1,9 @@
-//! The kinds of A.5 in the coverage: each is told apart from what is near it.
+//! The kinds of A.5 and A.6 in the coverage: each is told apart from what is near
+//! it.
 
-use crate::generated::{case_of, reached, reached_of_reasons};
+use crate::generated::{case_of, case_of_modules, reached, reached_of_reasons};
 use crate::rig::entry_of;
+use second::assemble::Source;
 use second::case::CaseRun;
 use second::Machine;
 
@@ -402,4 +404,134 @@ fn restores_with_saved_depths() {
     assert_eq!(transfer(8, 0), landing("saved depths to none"));
     assert_eq!(transfer(8, 6), [""; 0]);
     assert_eq!(transfer(8, 11), landing("saved depths to others"));
+}
+
+/// What a run reaches of A.6: literals, an operator, NOP and TRAP, from a machine
+/// at a position with these words.
+fn reached_of_results(opcode: u8, words: &[u16], budget: u32) -> Vec<String> {
+    let depth = words.len();
+    let mut run = step_at(depth as u16, depth as u8, 143, &[]);
+    run.budget = budget;
+    let machine = run.machine.as_mut().unwrap();
+    machine.stack[..depth].copy_from_slice(words);
+    let code = [LI1, LI1, opcode, NOP, TRAP];
+    let mut reached = reached(case_of(&[MAIN], &code, &[run]));
+    let lines = ["no steps of U", "no stops of U"];
+    reached.retain(|fault| lines.iter().any(|line| fault.starts_with(line)));
+    reached
+}
+
+/// UADD, USUB or UMUL as the only step, or as a stop before any.
+fn check_result(opcode: u8, c: u16, a: u16, expected: &[&str]) {
+    let reached = reached_of_results(opcode, &[c, a], 1);
+    assert_eq!(reached, expected, "{opcode:03o} {c} {a}");
+}
+
+#[test]
+fn unsigned_sums() {
+    let check = |c, a, expected| check_result(0o270, c, a, &[expected]);
+    check(0, 0, "no steps of UADD with the result 0");
+    let between = "no steps of UADD with the result 1 to 65534";
+    check(0, 1, between);
+    check(65_533, 1, between);
+    check(65_534, 1, "no steps of UADD with the result 65535");
+    check(65_535, 1, "no stops of UADD with 37 with the result 65536");
+    let between = "no stops of UADD with 37 with the result 65537 to 131069";
+    check(65_535, 2, between);
+    check(65_535, 65_534, between);
+    let furthest = "no stops of UADD with 37 with the result 131070";
+    check(65_535, 65_535, furthest);
+}
+
+#[test]
+fn unsigned_differences() {
+    let check = |c, a, expected| check_result(0o271, c, a, &[expected]);
+    check(7, 7, "no steps of USUB with the result 0");
+    let between = "no steps of USUB with the result 1 to 65534";
+    check(8, 7, between);
+    check(65_535, 1, between);
+    check(65_535, 0, "no steps of USUB with the result 65535");
+    check(7, 8, "no stops of USUB with 37 with the result -1");
+    let between = "no stops of USUB with 37 with the result -65534 to -2";
+    check(7, 9, between);
+    check(1, 65_535, between);
+    check(0, 65_535, "no stops of USUB with 37 with the result -65535");
+}
+
+#[test]
+fn unsigned_products() {
+    let check = |c, a, expected: &[&str]| check_result(0o272, c, a, expected);
+    check(0, 65_535, &["no steps of UMUL with the result 0"]);
+    let between = ["no steps of UMUL with the result 1 to 65534"];
+    check(1, 1, &between);
+    check(2, 32_767, &between);
+    check(255, 257, &["no steps of UMUL with the result 65535"]);
+    let low_0 = "no stops of UMUL with 37 with the low word 0";
+    let other = "no stops of UMUL with 37 with the low word other than 0";
+    let first = "no stops of UMUL with 37 with the result 65536";
+    check(256, 256, &[first, low_0]);
+    let between = "no stops of UMUL with 37 with the result 65537 to 4294836224";
+    check(2, 32_769, &[between, other]);
+    check(512, 256, &[between, low_0]);
+    check(65_535, 65_534, &[between, other]);
+    let furthest = "no stops of UMUL with 37 with the result 4294836225";
+    check(65_535, 65_535, &[furthest, other]);
+}
+
+/// The instruction must be the only one of its run.
+#[test]
+fn results_that_are_not_seen() {
+    let sum = |words: &[u16], budget| reached_of_results(0o270, words, budget);
+    assert_eq!(sum(&[65_534, 1], 1).len(), 1);
+    assert_eq!(sum(&[65_535, 1], 1).len(), 1);
+    // No step, and one more.
+    assert_eq!(sum(&[65_534, 1], 0), [""; 0]);
+    assert_eq!(sum(&[65_534, 1], 2), [""; 0]);
+    assert_eq!(sum(&[65_535, 1], 0), [""; 0]);
+    // A stop ends the run, whatever its budget.
+    assert_eq!(sum(&[65_535, 1], 2), sum(&[65_535, 1], 1));
+    // The LI1 before it is a step.
+    assert_eq!(sum(&[65_534], 2), [""; 0]);
+    assert_eq!(sum(&[65_535], 2), [""; 0]);
+    // Another operator, with a signed result outside.
+    assert_eq!(reached_of_results(0o330, &[32_767, 1], 1), [""; 0]);
+}
+
+/// The sums that are put: the last that is inside, and the first that goes round.
+/// Module 1 has the base 65,492 and literals, the instruction and a TRAP.
+#[test]
+fn sums_that_go_round() {
+    let check = |instruction: &[u8], l: u16, words: &[u16], expected: &[&str]| {
+        let depth = words.len();
+        let mut run = step_at(depth as u16, depth as u8, 143, &[]);
+        let machine = run.machine.as_mut().unwrap();
+        (machine.module, machine.l) = (1, l);
+        machine.stack[..depth].copy_from_slice(words);
+        let first = Source {
+            data_size: 65_361,
+            ..Source::plain(&[RTN])
+        };
+        let code = [&vec![LI1; depth], instruction, &[TRAP]].concat();
+        let mut case = case_of_modules(&[first, Source::plain(&code)], &[run]);
+        case.store_length = 65_535;
+        let mut reached = reached(case);
+        reached.retain(|fault| fault.contains("a sum that goes round"));
+        let line = "steps with a sum that goes round at";
+        assert_eq!(reached, missing(line, expected), "{instruction:?}");
+    };
+    check(&[0o024, 1], 65_534, &[], &[]);
+    check(&[0o024, 1], 65_535, &[], &["LLA"]);
+    check(&[0o025, 43], 0, &[], &[]);
+    check(&[0o025, 44], 0, &[], &["LGA"]);
+    check(&[0o026, 1], 0, &[65_534], &[]);
+    check(&[0o026, 1], 0, &[65_535], &["LSA"]);
+    check(&[0o027, 1, 43], 0, &[], &[]);
+    check(&[0o027, 1, 44], 0, &[], &["LEA"]);
+    check(&[0o027, 0, 255], 0, &[], &[]);
+    check(&[0o210], 0, &[65_535, 65_534, 0, 1], &[]);
+    check(&[0o210], 0, &[65_535, 65_535, 0, 1], &["DADD"]);
+    check(&[0o210], 0, &[0, 65_535, 0, 1], &[]);
+    check(&[0o211], 0, &[0, 1, 0, 1], &[]);
+    check(&[0o211], 0, &[0, 1, 0, 2], &["DSUB"]);
+    check(&[0o211], 0, &[1, 0, 0, 1], &[]);
 }

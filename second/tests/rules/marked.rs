@@ -133,10 +133,15 @@ fn minus_7_by_2_is_minus_3() {
     assert_eq!(stop_and_stack(&code), (40, vec![0xFFFD]));
 }
 
+/// A.6: "The marked case 65,535 + 1 now reads 37".
 #[test]
-fn unsigned_sum_is_reduced() {
+fn unsigned_sum_that_carries() {
     let code = [0o022, 0xFF, 0xFF, 0o001, 0o270, 0o304];
-    assert_eq!(stop_and_stack(&code), (40, vec![0]));
+    assert_eq!(stop_and_stack(&code), (37, vec![65_535, 1]));
+    assert_eq!(
+        desk(&plain_image(&code)),
+        "stop 37 code 0 steps 2 module 0 pc 4 depth 2\n0 0 0 0 0 0 0 0 0 0 0 0 0 0 0 0\n"
+    );
 }
 
 #[test]

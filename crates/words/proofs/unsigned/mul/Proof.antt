@@ -12,11 +12,8 @@ mul-result c =
     let p : c .args .c * c .args .a ≤ 65535 * 65535 = mul-le-mul {n₂ = 65535} {m₂ = 65535} (omega arith) (omega arith) in
     record { fits = omega arith }
 
-cast-result : tie.Need-cast-result
-cast-result c = search needs
-
 returns : tie.Need-returns
 returns c = search needs
 
 pub mul-spec : {M : Type 1} → statement M
-mul-spec = tie.close (tie.spec mul-result cast-result returns)
+mul-spec = tie.close (tie.spec mul-result returns)

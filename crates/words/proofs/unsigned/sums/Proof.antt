@@ -12,15 +12,18 @@ sub-requires c κs = search needs
 mul-requires : tie.Need-mul-requires
 mul-requires c κs = search needs
 
-chosen-requires : tie.Need-chosen-requires
-chosen-requires c κs = search needs
+chosen-wide-requires : tie.Need-chosen-wide-requires
+chosen-wide-requires c κs = search needs
 
-chosen-requires-2 : tie.Need-chosen-requires-2
-chosen-requires-2 c κs = search needs
+chosen-wide-requires-2 : tie.Need-chosen-wide-requires-2
+chosen-wide-requires-2 c κs = search needs
+
+settled-requires : tie.Need-settled-requires
+settled-requires c κs = search needs
 
 returns : tie.Need-returns
-returns c = rw (c .chosen2 .ensures, c .before .chosen .ensures, c .before .before .mul .ensures, c .before .before .before .sub .ensures, c .before .before .before .before .add .ensures)
-    (sums-word _ _ _ (c .before .before .before .before .before .pre .0) (c .before .before .before .before .before .pre .1))
+returns c = rw (c .settled .ensures, c .before .chosen-wide2 .ensures, c .before .before .chosen-wide .ensures, c .before .before .before .mul .ensures, c .before .before .before .before .sub .ensures, c .before .before .before .before .before .add .ensures)
+    (sums-word _ _ (c .before .before .before .before .before .before .fits .c .fits) (c .before .before .before .before .before .before .fits .a .fits) _ (c .before .before .before .before .before .before .pre .0) (c .before .before .before .before .before .before .pre .1))
 
 pub sums-spec : {M : Type 1} → statement M
-sums-spec = tie.close (tie.spec add-requires sub-requires mul-requires chosen-requires chosen-requires-2 returns)
+sums-spec = tie.close (tie.spec add-requires sub-requires mul-requires chosen-wide-requires chosen-wide-requires-2 settled-requires returns)

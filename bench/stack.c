@@ -34,10 +34,17 @@ static void start(void)
     cembuxola_start(image, length, store, WORDS, machine, CEMBUXOLA_MACHINE_WORDS);
 }
 
-static void run(void)
+static void run_with(uint16_t requests)
 {
     cembuxola_run(machine, CEMBUXOLA_MACHINE_WORDS, image, length, map, MOST_ENTRIES, store, WORDS, outputs, CEMBUXOLA_CHANNELS,
-                  inputs, CEMBUXOLA_CHANNELS, answer, CEMBUXOLA_ANSWER_NUMBERS, STEPS);
+                  inputs, CEMBUXOLA_CHANNELS, answer, CEMBUXOLA_ANSWER_NUMBERS, STEPS, requests);
+}
+
+/* Line 8 is requested where the program has stopped: examples/clock.img takes it there. */
+static void run(void)
+{
+    run_with(0);
+    run_with(1 << 8);
 }
 
 static size_t taken(void (*call)(void))

@@ -41,7 +41,16 @@
  * The answer of a run is CEMBUXOLA_ANSWER_NUMBERS numbers:
  *   number 0    count, the steps that were done; the stopping instruction is not counted
  *   number 1    code, the program's own code (0 to 65,535) at stop 40, else 0
- * A refused run answers count 0 and code 0.
+ *   number 2    requests, what is left of the word of requests (0 to 65,535)
+ * A refused run answers count 0, code 0 and the requests as given.
+ *
+ * The word of requests says which lines are requested. Lines are 8 to 15; bit i has weight 2^i and is line i. Before an instruction, the
+ * highest line is taken that is in the requests, not in M and not in store word 3; one that M or word 3 has waits. A line transfers to the
+ * process that store word 2i names and writes the one that it interrupts to word 2i + 1, so that a TRANSFER can go back to it: it goes on
+ * with the instruction that was about to run, its whole expression stack as it was. Where word 2i names the process that runs, only word
+ * 2i + 1 is written. Either counts as a step and clears the bit. Where there is no process to transfer to, the run stops with 35 and the bit
+ * is kept: start leaves zeros in these words, so the program must have written its word 2i before line i is requested. Bits 0 to 7 are
+ * ignored and returned as given. Pass 0 where no line is used.
  */
 #ifndef CEMBUXOLA_H
 #define CEMBUXOLA_H
@@ -55,7 +64,7 @@ extern "C" {
 
 #define CEMBUXOLA_PLACE_WORDS 2
 #define CEMBUXOLA_MACHINE_WORDS 24
-#define CEMBUXOLA_ANSWER_NUMBERS 2
+#define CEMBUXOLA_ANSWER_NUMBERS 3
 /* The inputs and the outputs of a run. */
 #define CEMBUXOLA_CHANNELS 16
 
@@ -80,17 +89,18 @@ enum {
     CEMBUXOLA_NOT_WHOLE = 13,     /* the code is not whole: a position reached from the entries without regard to depth has an
                                    * unlisted opcode, operands outside the code, a missing module or procedure, or a successor
                                    * outside the code */
-    CEMBUXOLA_WRONG_LENGTH = 20   /* the place is not 2 words, the machine not 24, or the answer not 2 numbers; tested before all else */
+    CEMBUXOLA_WRONG_LENGTH = 20   /* the place is not 2 words, the machine not 24, or the answer not 3 numbers; tested before all else */
 };
 
-/* Stops. A trap and an end leave everything as it was before their instruction, at which the machine stands. */
+/* Stops. A trap and an end leave everything as it was before their instruction, at which the machine stands; so does a line whose
+ * transfer fails. */
 enum {
     CEMBUXOLA_SPENT = 30,        /* all n steps are done */
     CEMBUXOLA_ENDED = 31,        /* the program has ended */
     CEMBUXOLA_ADDRESS = 32,      /* trap: an address not below the store's length */
     CEMBUXOLA_STACK_LIMIT = 33,  /* trap: the stack would pass H */
     CEMBUXOLA_RETURN_MARK = 34,  /* trap: no place to return to, or no saved words to restore */
-    CEMBUXOLA_PROCESS = 35,      /* trap: no process to transfer to */
+    CEMBUXOLA_PROCESS = 35,      /* trap: no process to transfer to, by TRANSFER or by a line */
     CEMBUXOLA_DIVISOR = 36,      /* trap: a divisor of 0 */
     CEMBUXOLA_RESULT_RANGE = 37, /* trap: a result that no word holds: signed outside -32,768 to 32,767, unsigned outside 0 to 65,535 */
     CEMBUXOLA_CHECK = 38,        /* trap: a value outside its limits */
@@ -123,11 +133,14 @@ uint16_t cembuxola_start(const uint8_t *image, size_t image_length, uint16_t *st
  *   store    read and written. Every refusal leaves it as it was.
  *   outputs  CEMBUXOLA_CHANNELS words, the current value of each output. Every refusal leaves them as they were.
  *   inputs   CEMBUXOLA_CHANNELS words, read
- *   answer   CEMBUXOLA_ANSWER_NUMBERS numbers, written: count and code. 20 leaves them as they were.
- *   n        the most steps, 0 to 4,294,967,295 */
+ *   answer   CEMBUXOLA_ANSWER_NUMBERS numbers, written: count, code and requests. 20 leaves them as they were.
+ *   n        the most steps, 0 to 4,294,967,295
+ *   requests the lines that are requested, as said above; 0 where no line is used. The next run gets the word that is left, with the bits
+ *            of the lines requested since: (uint16_t)(answer[2] | since). */
 uint16_t cembuxola_run(uint16_t *machine, size_t machine_length, const uint8_t *image, size_t image_length, const uint32_t *map,
                        size_t map_length, uint16_t *store, size_t store_length, uint16_t *outputs, size_t outputs_length,
-                       const uint16_t *inputs, size_t inputs_length, uint32_t *answer, size_t answer_length, uint32_t n);
+                       const uint16_t *inputs, size_t inputs_length, uint32_t *answer, size_t answer_length, uint32_t n,
+                       uint16_t requests);
 
 #ifdef __cplusplus
 }

@@ -2,7 +2,7 @@
 //! some percent, where the store lies to the stack of run, modulo 4,096 bytes, moves calls at a few places by a third, and the machine has
 //! slow phases. The mean of the layouts, each the least of many runs spread over the whole time, is moved little by any of them.
 
-use crate::images::{self, Long, Loop, LONG};
+use crate::images::{self, Long, Loop, LINES_A_RUN, LINE_STEPS, LONG};
 use crate::mixed;
 use crate::sides::Compared;
 use crate::speed::{line, INPUTS, WORDS};
@@ -17,8 +17,11 @@ const PLACES: [usize; 4] = [0, 16, 32, 48];
 const LAYOUTS: usize = 16;
 const STRIDE: usize = 272;
 const PAGE: usize = 4_096;
-/// Steps of a timed run.
+/// Steps of a timed run, and runs with lines that are taken in one timed work.
 const STEPS: u32 = 300_000;
+const LINE_RUNS: u32 = 300;
+/// The word of the machine that is M.
+const M: usize = 7;
 /// Runs in turn before the other build has its turn: the first of them teach the predictor of jumps.
 const RUNS: u32 = 4;
 /// Mixed programs of each size.
@@ -30,9 +33,15 @@ extern "C" {
     fn dlsym(object: *mut c_void, name: *const c_char) -> *mut c_void;
 }
 
+/// The functions of a build, and how many numbers its run answers.
+struct Build {
+    library: Library,
+    numbers: usize,
+}
+
 /// A program on one build, with buffers of its own. The store is the words from `at` on.
 struct Begun<'a> {
-    build: &'a Library,
+    build: &'a Build,
     image: &'a [u8],
     map: Vec<u32>,
     words: Vec<u16>,
@@ -43,9 +52,9 @@ struct Begun<'a> {
 
 /// A shared object of the library; it stays open.
 ///
-/// A library from before A.3 takes no place: on x86-64 a C function ignores two further arguments. The map of one from before A.5 has a byte
-/// where it has an entry now, so the first bytes of the same buffer are enough.
-fn open(path: &str) -> Compared<Library> {
+/// A library from before A.3 takes no place, one from before A.7 no requests: on x86-64 a C function ignores further arguments. The map of one
+/// from before A.5 has a byte where it has an entry now, so the first bytes of the same buffer are enough.
+fn open(path: &str) -> Compared<Build> {
     let name = CString::new(path).map_err(|error| error.to_string())?;
     // SAFETY: a path, and the names of functions, as C strings.
     let object = unsafe { dlopen(name.as_ptr(), NOW) };
@@ -60,12 +69,34 @@ fn open(path: &str) -> Compared<Library> {
     let start = function(c"cembuxola_start")?;
     let run = function(c"cembuxola_run")?;
     // SAFETY: the functions are as include/cembuxola.h declares them, or take less, as said above; the object stays open.
-    Ok(unsafe { Library::at(load, start, run) })
+    let library = unsafe { Library::at(load, start, run) };
+    let numbers = answer_numbers(&library)
+        .ok_or_else(|| format!("{path}: run takes no answer of 2 or 3 numbers"))?;
+    Ok(Build { library, numbers })
+}
+
+/// The length of answer that is not 20: 2 before A.7.
+fn answer_numbers(library: &Library) -> Option<usize> {
+    (2..=ANSWER_NUMBERS).find(|&numbers| {
+        let mut machine = [0; MACHINE_WORDS];
+        let mut answer = vec![0; numbers];
+        library.run(
+            &mut machine,
+            &[],
+            &[],
+            &mut [],
+            &mut [],
+            &[],
+            &mut answer,
+            0,
+            0,
+        ) != 20
+    })
 }
 
 impl<'a> Begun<'a> {
     /// With the store so many bytes after a multiple of 4,096.
-    fn new(build: &'a Library, image: &'a [u8], offset: usize) -> Begun<'a> {
+    fn new(build: &'a Build, image: &'a [u8], offset: usize) -> Begun<'a> {
         let words = vec![0; WORDS + PAGE / 2];
         let at = (2 * PAGE + offset - words.as_ptr() as usize % PAGE) % PAGE / 2;
         Begun {
@@ -79,40 +110,56 @@ impl<'a> Begun<'a> {
         }
     }
 
-    /// Whether load and start accept; the words of the patches are written then. A library from before a request does not know its
-    /// instructions.
-    fn begin(&mut self, patches: &[(u16, u16)]) -> bool {
+    /// Whether the build takes the requests, and load and start accept; the words of the program are written then. A library from before a
+    /// request does not know its instructions, and one from before A.7 takes no requests.
+    fn begin(&mut self, program: &Loop) -> bool {
+        let requested = program.requests.given != 0;
+        if requested && self.build.numbers < ANSWER_NUMBERS {
+            return false;
+        }
         if self.load() != 0 || self.start() != 0 {
             return false;
         }
-        for &(address, word) in patches {
+        for &(address, word) in &program.patches {
             self.words[self.at + usize::from(address)] = word;
         }
+        self.machine[M] = program.mask;
         true
     }
 
     fn load(&mut self) -> u16 {
         let mut place = [0; PLACE_WORDS];
-        self.build.load(self.image, &mut self.map, &mut place)
+        self.build
+            .library
+            .load(self.image, &mut self.map, &mut place)
     }
 
     fn start(&mut self) -> u16 {
         let store = &mut self.words[self.at..self.at + WORDS];
-        self.build.start(self.image, store, &mut self.machine)
+        self.build
+            .library
+            .start(self.image, store, &mut self.machine)
     }
 
-    fn run(&mut self, n: u32) -> u16 {
+    fn run(&mut self, n: u32, requests: u16) -> u16 {
         let mut answer = [0; ANSWER_NUMBERS];
-        self.build.run(
+        self.build.library.run(
             &mut self.machine,
             self.image,
             &self.map,
             &mut self.words[self.at..self.at + WORDS],
             &mut self.outputs,
             &INPUTS,
-            &mut answer,
+            &mut answer[..self.build.numbers],
             n,
+            requests,
         )
+    }
+
+    /// So many runs; the first answer other than 30, if there is one.
+    fn runs(&mut self, runs: u32, n: u32, requests: u16) -> u16 {
+        let mut answers = (0..runs).map(|_| self.run(n, requests));
+        answers.find(|&number| number != 30).unwrap_or(30)
     }
 }
 
@@ -120,6 +167,7 @@ impl<'a> Begun<'a> {
 #[derive(Clone, Copy)]
 enum Kind {
     Steps,
+    Lines,
     Load,
     Refused,
     Tests,
@@ -127,18 +175,19 @@ enum Kind {
 
 impl Kind {
     /// Whether the program can be timed on this build: what is refused can on any.
-    fn begin(self, begun: &mut Begun, patches: &[(u16, u16)]) -> bool {
-        matches!(self, Kind::Refused) || begun.begin(patches)
+    fn begin(self, begun: &mut Begun, program: &Loop) -> bool {
+        matches!(self, Kind::Refused) || begun.begin(program)
     }
 
     /// One timed call, in seconds, or an answer that it should not give. Where code is not whole, a library from before A.3 answers 8.
-    fn time(self, begun: &mut Begun) -> Compared<f64> {
+    fn time(self, begun: &mut Begun, requests: u16) -> Compared<f64> {
         let begin = Instant::now();
         let (number, wanted): (u16, &[u16]) = match self {
-            Kind::Steps => (begun.run(STEPS), &[30]),
+            Kind::Steps => (begun.run(STEPS, requests), &[30]),
+            Kind::Lines => (begun.runs(LINE_RUNS, LINE_STEPS, requests), &[30]),
             Kind::Load => (begun.load(), &[0]),
             Kind::Refused => (begun.load(), &[8, 13]),
-            Kind::Tests => (begun.run(0), &[30]),
+            Kind::Tests => (begun.run(0, requests), &[30]),
         };
         let time = begin.elapsed().as_secs_f64();
         if wanted.contains(&number) {
@@ -152,6 +201,7 @@ impl Kind {
     fn unit(self) -> (&'static str, f64) {
         match self {
             Kind::Steps => ("ns/step", 1e9 / f64::from(STEPS)),
+            Kind::Lines => ("ns/line", 1e9 / f64::from(LINE_RUNS * LINES_A_RUN)),
             Kind::Load | Kind::Refused | Kind::Tests => ("us", 1e6),
         }
     }
@@ -178,18 +228,18 @@ impl Work {
     }
 
     /// One more turn of each build in each layout.
-    fn turn(&mut self, builds: &[[Library; PLACES.len()]; 2]) -> Compared<()> {
+    fn turn(&mut self, builds: &[[Build; PLACES.len()]; 2]) -> Compared<()> {
         for layout in 0..LAYOUTS {
             let offset = STRIDE * layout;
             for (side, build) in builds.iter().enumerate() {
                 let build = &build[layout % PLACES.len()];
                 let mut begun = Begun::new(build, &self.program.image, offset);
-                if !self.kind.begin(&mut begun, &self.program.patches) {
+                if !self.kind.begin(&mut begun, &self.program) {
                     continue;
                 }
                 let least = &mut self.least[side][layout];
                 for _ in 0..RUNS {
-                    *least = least.min(self.kind.time(&mut begun)?);
+                    *least = least.min(self.kind.time(&mut begun, self.program.requests.given)?);
                 }
             }
         }
@@ -210,13 +260,13 @@ fn long_works(title: &str, kind: Kind, images: Vec<Long>) -> impl Iterator<Item 
         let program = Loop {
             name: long.name,
             image: long.image,
-            patches: Vec::new(),
+            ..Loop::default()
         };
         Work::new(&name, kind, program)
     })
 }
 
-/// All works: the short loops, the mixed programs of several seeds, load, also of what it refuses, and the test of a map.
+/// All works: the short loops, the mixed programs of several seeds, runs with requests, load, also of what it refuses, and the test of a map.
 fn works() -> Vec<Work> {
     let mut all = Vec::new();
     for program in images::loops() {
@@ -226,6 +276,12 @@ fn works() -> Vec<Work> {
         for program in mixed::programs(seed) {
             all.push(Work::new(program.name, Kind::Steps, program));
         }
+    }
+    for program in images::waiting_lines() {
+        all.push(Work::new(program.name, Kind::Steps, program));
+    }
+    for program in images::line_runs() {
+        all.push(Work::new(program.name, Kind::Lines, program));
     }
     for (title, kind, images) in [
         ("load", Kind::Load, images::long_images()),
@@ -258,7 +314,7 @@ pub fn beside(folder: &str, passes: u64) -> Compared<()> {
         let [a, b, c, d] = PLACES.map(|place| open(&format!("{folder}/{side}.{place}.so")));
         builds.push([a?, b?, c?, d?]);
     }
-    let builds: [[Library; PLACES.len()]; 2] = builds.try_into().map_err(|_| "two builds")?;
+    let builds: [[Build; PLACES.len()]; 2] = builds.try_into().map_err(|_| "two builds")?;
     let mut works = works();
     for _ in 0..passes {
         for work in &mut works {

@@ -14,6 +14,8 @@ pub struct Total {
     pub cases: u64,
     pub runs: u64,
     pub steps: u64,
+    /// The lines that were taken.
+    pub lines: u64,
     /// How often each number was answered by load, and by a run.
     pub loads: BTreeMap<u16, u64>,
     pub numbers: BTreeMap<u16, u64>,
@@ -30,6 +32,8 @@ impl Total {
         wrong_places(&sides)?;
         *self.loads.entry(sides.load()?).or_default() += 1;
         sides.start()?;
+        // what the run before has left of the requests
+        let mut left = 0;
         for (index, run) in case.runs.iter().enumerate() {
             for &(offset, entry) in &run.map_patches {
                 sides.ours.map[usize::from(offset)] = entry;
@@ -44,13 +48,17 @@ impl Total {
                 sides.theirs.machine = machine;
             }
             let of = |error| format!("run {index}: {error}");
+            let requests = run.requests.unwrap_or(left);
             if index == 0 {
-                wrong_lengths(&sides, &run.inputs, run.budget).map_err(of)?;
-                far_module(&sides, &run.inputs, run.budget).map_err(of)?;
+                wrong_lengths(&sides, &run.inputs, run.budget, requests).map_err(of)?;
+                far_module(&sides, &run.inputs, run.budget, requests).map_err(of)?;
             }
-            let (number, count) = sides.run(&run.inputs, run.budget).map_err(of)?;
+            let (number, answer) = sides.run(&run.inputs, run.budget, requests).map_err(of)?;
+            // it is the second interpreter's word
+            left = answer[2] as u16;
             self.runs += 1;
-            self.steps += u64::from(count);
+            self.steps += u64::from(answer[0]);
+            self.lines += u64::from((requests & !left).count_ones());
             *self.numbers.entry(number).or_default() += 1;
         }
         self.cases += 1;
@@ -75,8 +83,16 @@ fn wrong_places(sides: &Sides) -> Compared<()> {
 }
 
 /// A machine or an answer of a wrong length is answered with 20, and nothing is changed.
-fn wrong_lengths(sides: &Sides, inputs: &[u16], n: u32) -> Compared<()> {
-    const LENGTHS: [(usize, usize); 6] = [(0, 2), (23, 2), (25, 2), (24, 0), (24, 1), (24, 3)];
+fn wrong_lengths(sides: &Sides, inputs: &[u16], n: u32, requests: u16) -> Compared<()> {
+    const LENGTHS: [(usize, usize); 7] = [
+        (0, ANSWER_NUMBERS),
+        (MACHINE_WORDS - 1, ANSWER_NUMBERS),
+        (MACHINE_WORDS + 1, ANSWER_NUMBERS),
+        (MACHINE_WORDS, 0),
+        (MACHINE_WORDS, 1),
+        (MACHINE_WORDS, 2),
+        (MACHINE_WORDS, 4),
+    ];
     for (machine_words, answer_numbers) in LENGTHS {
         let mut ours = sides.ours.clone();
         let mut machine = vec![7; machine_words];
@@ -90,6 +106,7 @@ fn wrong_lengths(sides: &Sides, inputs: &[u16], n: u32) -> Compared<()> {
             inputs,
             &mut answer,
             n,
+            requests,
         );
         let mut numbers = vec![number];
         if machine_words != MACHINE_WORDS {
@@ -108,20 +125,21 @@ fn wrong_lengths(sides: &Sides, inputs: &[u16], n: u32) -> Compared<()> {
     Ok(())
 }
 
-/// A module above 255 is refused as module 255 is, and the words stay.
-fn far_module(sides: &Sides, inputs: &[u16], n: u32) -> Compared<()> {
+/// A module above 255 is refused as module 255 is, the words stay, and the requests come back as given.
+fn far_module(sides: &Sides, inputs: &[u16], n: u32, requests: u16) -> Compared<()> {
     for module in [255, 256, 257, 65_535] {
         let mut ours = sides.ours.clone();
         ours.machine[0] = module;
         let machine = ours.machine;
-        let answer = ours.run(&sides.image, inputs, n);
+        let answer = ours.run(&sides.image, inputs, n, requests);
         let mut theirs = sides.theirs.clone();
         theirs.machine.module = 255;
-        let other = theirs.run(&sides.image, inputs, n);
+        let other = theirs.run(&sides.image, inputs, n, requests);
         let kept = ours.machine == machine
             && ours.store == sides.ours.store
             && ours.outputs == sides.ours.outputs;
-        if answer != (u16::from(other.number), [0; ANSWER_NUMBERS]) || !kept {
+        let refused = (u16::from(other.number), [0, 0, u32::from(requests)]);
+        if answer != refused || !kept {
             return Err(format!(
                 "module {module}: answered {answer:?}, all kept: {kept}"
             ));
@@ -130,9 +148,9 @@ fn far_module(sides: &Sides, inputs: &[u16], n: u32) -> Compared<()> {
     Ok(())
 }
 
-/// A case of a seed. Each kind of case recurs every 32 cases, so every other 32 are full ones.
+/// A case of a seed. Each kind of case recurs in every round, and every other round is one of full cases.
 fn generated(seed: u64, index: u64) -> Case {
-    let scale = if index / 32 % 2 == 1 {
+    let scale = if index / gen::ROUND % 2 == 1 {
         &gen::FULL
     } else {
         &gen::SMALL

@@ -2,12 +2,23 @@
 
 use second::assemble::{encode, Source};
 use second::image::Procedure;
+use second::request::{self, HELD, LINES};
 
-/// A program that runs on for ever, and words to write into its store after start.
+/// A program that runs on for ever, with words to write into its store and into M after start, and the requests of each of its runs.
+#[derive(Default)]
 pub struct Loop {
     pub name: &'static str,
     pub image: Vec<u8>,
     pub patches: Vec<(u16, u16)>,
+    pub mask: u16,
+    pub requests: Requests,
+}
+
+/// The word of requests that a run is given, and what it leaves of it.
+#[derive(Clone, Copy, Default)]
+pub struct Requests {
+    pub given: u16,
+    pub left: u16,
 }
 
 /// An image whose load is timed, and what load answers.
@@ -109,7 +120,7 @@ pub fn plain(name: &'static str, modules: &[Source]) -> Loop {
     Loop {
         name,
         image: encode(modules),
-        patches: Vec::new(),
+        ..Loop::default()
     }
 }
 
@@ -241,7 +252,79 @@ fn transfers(name: &'static str, words: u16, stack: u16) -> Loop {
         name,
         image: encode(&[with_data(code.0)]),
         patches,
+        ..Loop::default()
     }
+}
+
+/// The arithmetic with all lines requested, which wait all the time.
+pub fn waiting_lines() -> [Loop; 2] {
+    let requests = Requests {
+        given: LINES,
+        left: LINES,
+    };
+    let masked = Loop {
+        name: "arithmetic, masked by M",
+        mask: LINES,
+        requests,
+        ..arithmetic()
+    };
+    let held = Loop {
+        name: "arithmetic, held by word 3",
+        patches: vec![(HELD as u16, LINES)],
+        requests,
+        ..arithmetic()
+    };
+    [masked, held]
+}
+
+/// Lines that a run of [`LINE_STEPS`] takes: each in five steps, with the way back, and one step of the process that is interrupted.
+pub const LINES_A_RUN: u32 = LINES.count_ones();
+pub const LINE_STEPS: u32 = 6 * LINES_A_RUN;
+
+/// A process with so many words on its stack, and a process for each line, which transfers back at once. It has all lines masked, so
+/// that they are taken one after another, each with the same words to save.
+fn taken_lines(name: &'static str, words: usize) -> Loop {
+    let mut code = Code(vec![1; words]);
+    code.back(0o035, words);
+    let mut procedures = vec![procedure(0, 0, 0)];
+    let mut patches = Vec::new();
+    for line in request::lines(LINES) {
+        let (target, old) = (request::target_word(line), request::old_word(line));
+        let top = code.here();
+        procedures.push(procedure(top, 0, 0));
+        code.put(&[0o020, target as u8, 0o020, old as u8, 0o256, 1]);
+        let behind = code.here() as u16;
+        code.back(0o035, top);
+        // its stack is the count of its saved words, 0
+        let count = OTHER_STACK + u16::from(line);
+        let record = 1000 + 8 * u16::from(line);
+        patches.push((target, record));
+        patches.extend((record..).zip([BASE, 0, behind, LINES, count + 1, 3000]));
+    }
+    let module = Source {
+        procedures,
+        ..with_data(code.0)
+    };
+    Loop {
+        patches,
+        requests: Requests {
+            given: LINES,
+            left: 0,
+        },
+        ..plain(name, &[module])
+    }
+}
+
+/// All lines requested, and taken; and what an eighth of such a run takes by itself.
+pub fn line_runs() -> [Loop; 3] {
+    [
+        taken_lines("lines taken, 0 words", 0),
+        taken_lines("lines taken, 16 words", 16),
+        Loop {
+            requests: Requests::default(),
+            ..taken_lines("the same, no requests", 16)
+        },
+    ]
 }
 
 fn input_and_output() -> Loop {

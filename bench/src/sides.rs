@@ -3,6 +3,7 @@
 use crate::words::words;
 use cembuxola::c::LINKED as ENGINE;
 use cembuxola::{ANSWER_NUMBERS, MACHINE_WORDS, PLACE_WORDS};
+use second::api::Buffers;
 use second::Machine;
 
 /// The buffers and the machine of a program on both sides.
@@ -109,15 +110,21 @@ impl Sides {
         Ok(number)
     }
 
-    /// The number, and the count of steps.
-    pub fn run(&mut self, inputs: &[u16], n: u32) -> Compared<(u16, u32)> {
-        let (number, answer) = self.ours.run(&self.image, inputs, n);
-        let other = self.theirs.run(&self.image, inputs, n);
+    /// The number, and the answer.
+    pub fn run(
+        &mut self,
+        inputs: &[u16],
+        n: u32,
+        requests: u16,
+    ) -> Compared<(u16, [u32; ANSWER_NUMBERS])> {
+        let (number, answer) = self.ours.run(&self.image, inputs, n, requests);
+        let other = self.theirs.run(&self.image, inputs, n, requests);
         same("run", number, u16::from(other.number))?;
         same("count", answer[0], other.count)?;
         same("code", answer[1], u32::from(other.code))?;
+        same("requests", answer[2], u32::from(other.requests))?;
         self.compare()?;
-        Ok((number, answer[0]))
+        Ok((number, answer))
     }
 }
 
@@ -130,15 +137,32 @@ impl Ours {
         (number, place)
     }
 
-    pub fn run(&mut self, image: &[u8], inputs: &[u16], n: u32) -> (u16, [u32; ANSWER_NUMBERS]) {
-        let mut answer = [0xABCD; ANSWER_NUMBERS];
+    pub fn run(
+        &mut self,
+        image: &[u8],
+        inputs: &[u16],
+        n: u32,
+        requests: u16,
+    ) -> (u16, [u32; ANSWER_NUMBERS]) {
+        // all numbers are written, whatever stood there
+        let mut answer = [0xABCD_EF01; ANSWER_NUMBERS];
         let Ours {
             map,
             store,
             outputs,
             machine,
         } = self;
-        let number = ENGINE.run(machine, image, map, store, outputs, inputs, &mut answer, n);
+        let number = ENGINE.run(
+            machine,
+            image,
+            map,
+            store,
+            outputs,
+            inputs,
+            &mut answer,
+            n,
+            requests,
+        );
         (number, answer)
     }
 }
@@ -148,14 +172,27 @@ impl Theirs {
         second::load(image, &mut self.map)
     }
 
-    pub fn run(&mut self, image: &[u8], inputs: &[u16], n: u32) -> second::RunAnswer {
+    pub fn run(
+        &mut self,
+        image: &[u8],
+        inputs: &[u16],
+        n: u32,
+        requests: u16,
+    ) -> second::RunAnswer {
         let Theirs {
             map,
             store,
             outputs,
             machine,
         } = self;
-        let answer = second::run(*machine, image, map, store, outputs, inputs, n);
+        let buffers = Buffers {
+            image,
+            map,
+            store,
+            outputs,
+            inputs,
+        };
+        let answer = second::run(*machine, buffers, requests, n);
         self.machine = answer.machine;
         answer
     }

@@ -1,14 +1,17 @@
 //! Times both sides in turn, in one process, after their results were compared.
 
-use crate::images::{self, Long, Loop, LONG};
+use crate::images::{self, Long, Loop, Requests, LINES_A_RUN, LINE_STEPS, LONG};
 use crate::mixed;
 use crate::sides::{Compared, Sides};
+use crate::words::words;
 use std::time::Instant;
 
 pub const WORDS: usize = 4_096;
 pub const INPUTS: [u16; 16] = [3; 16];
 /// Steps of a timed run, and of the compared one.
 const STEPS: u32 = 1_000_000;
+/// Runs with lines that are taken, in one timed work.
+const LINE_RUNS: u32 = 2_000;
 const ROUNDS: u32 = 40;
 
 /// The least times in seconds of two works, done in turn.
@@ -26,30 +29,44 @@ fn least_times(mut ours: impl FnMut(), mut theirs: impl FnMut()) -> [f64; 2] {
     least
 }
 
+/// An error of what has this name.
+fn of(name: &str) -> impl Fn(String) -> String + '_ {
+    move |error| format!("{name}: {error}")
+}
+
 /// A line of the table: both sides and the ratio of their times.
 pub fn line(name: &str, unit: &str, [one, other]: [f64; 2], ratio: f64) {
     println!("{name:28} {one:9.2} {other:9.2} {unit:8} {ratio:6.2}");
 }
 
-/// An image that both sides accept and start, with the words of the patches written.
-fn begun(image: &[u8], patches: &[(u16, u16)]) -> Compared<Sides> {
+/// An image that both sides accept and start.
+fn begun(image: &[u8]) -> Compared<Sides> {
     let mut sides = Sides::new(image, vec![0; image.len()], vec![0; WORDS], vec![0; 16]);
     let numbers = (sides.load()?, sides.start()?);
     if numbers != (0, 0) {
         return Err(format!("load and start answer {numbers:?}"));
     }
-    for &(address, word) in patches {
-        sides.ours.store[usize::from(address)] = word;
-        sides.theirs.store[usize::from(address)] = word;
-    }
     Ok(sides)
 }
 
-/// Runs n steps on both sides, compares, and times them.
-fn time_steps(sides: &mut Sides, n: u32) -> Compared<[f64; 2]> {
-    let (number, count) = sides.run(&INPUTS, n)?;
-    if (number, count) != (30, n) {
-        return Err(format!("the run stops with {number} after {count} steps"));
+/// A program begun, with its words written.
+fn begun_loop(one: &Loop) -> Compared<Sides> {
+    let mut sides = begun(&one.image)?;
+    for &(address, word) in &one.patches {
+        sides.ours.store[usize::from(address)] = word;
+        sides.theirs.store[usize::from(address)] = word;
+    }
+    sides.theirs.machine.m = one.mask;
+    sides.ours.machine = words(&sides.theirs.machine);
+    Ok(sides)
+}
+
+/// Runs n steps on both sides, compares, and times so many such runs.
+fn time_runs(sides: &mut Sides, n: u32, requests: Requests, runs: u32) -> Compared<[f64; 2]> {
+    let Requests { given, left } = requests;
+    let ran = sides.run(&INPUTS, n, given)?;
+    if ran != (30, [n, 0, u32::from(left)]) {
+        return Err(format!("the run answers {ran:?}"));
     }
     let Sides {
         image,
@@ -57,17 +74,25 @@ fn time_steps(sides: &mut Sides, n: u32) -> Compared<[f64; 2]> {
         theirs,
     } = sides;
     Ok(least_times(
-        || assert_eq!(ours.run(image, &INPUTS, n).0, 30),
-        || assert_eq!(theirs.run(image, &INPUTS, n).number, 30),
+        || (0..runs).for_each(|_| assert_eq!(ours.run(image, &INPUTS, n, given).0, 30)),
+        || (0..runs).for_each(|_| assert_eq!(theirs.run(image, &INPUTS, n, given).number, 30)),
     ))
 }
 
 /// Times in nanoseconds a step.
 fn time_loop(one: &Loop) -> Compared<[f64; 2]> {
-    let mut sides = begun(&one.image, &one.patches)?;
-    let times = time_steps(&mut sides, STEPS)?;
+    let times = time_runs(&mut begun_loop(one)?, STEPS, one.requests, 1)?;
     let each = times.map(|time| time * 1e9 / f64::from(STEPS));
     line(one.name, "ns/step", each, each[0] / each[1]);
+    Ok(each)
+}
+
+/// Times in nanoseconds a line that is taken, with its way back.
+fn time_lines(one: &Loop) -> Compared<[f64; 2]> {
+    let times = time_runs(&mut begun_loop(one)?, LINE_STEPS, one.requests, LINE_RUNS)?;
+    let lines = f64::from(LINE_RUNS * LINES_A_RUN);
+    let each = times.map(|time| time * 1e9 / lines);
+    line(one.name, "ns/line", each, each[0] / each[1]);
     Ok(each)
 }
 
@@ -75,7 +100,7 @@ fn time_loop(one: &Loop) -> Compared<[f64; 2]> {
 fn time_loops(loops: &[Loop]) -> Compared<()> {
     let mut logs = [0.0; 2];
     for one in loops {
-        let each = time_loop(one).map_err(|error| format!("{}: {error}", one.name))?;
+        let each = time_loop(one).map_err(of(one.name))?;
         for (log, time) in logs.iter_mut().zip(each) {
             *log += time.ln() / loops.len() as f64;
         }
@@ -107,8 +132,7 @@ fn time_load(one: &Long) -> Compared<()> {
 }
 
 fn time_tests(one: &Long) -> Compared<()> {
-    let mut sides = begun(&one.image, &[])?;
-    let times = time_steps(&mut sides, 1)?;
+    let times = time_runs(&mut begun(&one.image)?, 1, Requests::default(), 1)?;
     line(
         one.name,
         "us",
@@ -121,7 +145,20 @@ fn time_tests(one: &Long) -> Compared<()> {
 /// A line for each image.
 fn time_each(images: &[Long], time: fn(&Long) -> Compared<()>) -> Compared<()> {
     for one in images {
-        time(one).map_err(|error| format!("{}: {error}", one.name))?;
+        time(one).map_err(of(one.name))?;
+    }
+    Ok(())
+}
+
+/// A line for each program with requests.
+fn time_requests() -> Compared<()> {
+    println!("steps with all lines requested, which wait");
+    for one in &images::waiting_lines() {
+        time_loop(one).map_err(of(one.name))?;
+    }
+    println!("runs that take 8 lines, an 8th of each: a line, 4 steps back, a step between");
+    for one in &images::line_runs() {
+        time_lines(one).map_err(of(one.name))?;
     }
     Ok(())
 }
@@ -137,6 +174,7 @@ pub fn speed() -> Compared<()> {
     time_loops(&images::loops())?;
     println!("steps of mixed programs");
     time_loops(&mixed::programs(mixed::SEED))?;
+    time_requests()?;
     println!("load");
     time_each(&long, time_load)?;
     println!("load, refused with 13 where the code ends");

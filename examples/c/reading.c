@@ -1,8 +1,11 @@
-/* reading FILE: the desk's reading of an image, in C: load, start and one run with W = 4,096, inputs 0, outputs first 0 and n = 1,000.
- * Prints the stop and the outputs, or `refused` and the number; where code is not whole, standard error says at which place.
+/* reading [--requests WORD] [--after N] FILE: the desk's reading of an image, in C: load, start, and runs of 1,000 steps in all with W = 4,096,
+ * inputs 0 and outputs first 0. After N steps (0) without requests it goes on with the word of requests (0), unless the program has stopped.
+ * Prints the stop and the outputs, or `refused` and the number; where code is not whole, standard error says at which place. With a word
+ * other than 0 a third line has what is left of it.
  * Its map is that of the largest image, so it reads every one that load accepts; the desk program's has 16,384 entries, and a longer image
  * that passes the earlier checks is refused with 7 there. examples/c/build builds it. */
 #include <stdio.h>
+#include <string.h>
 
 #include "cembuxola.h"
 
@@ -34,7 +37,30 @@ static void say_place(const char *name)
             (unsigned)place[0], (unsigned)place[1]);
 }
 
-static int read_and_run(const char *name, size_t length)
+/* Steps that are done, and what is left of the requests. */
+static uint32_t steps, requests;
+
+/* At most n steps more. What is left of the requests is kept for the next run; lines that are requested in between add their bits. */
+static unsigned run(size_t length, uint32_t n)
+{
+    unsigned number = cembuxola_run(machine, CEMBUXOLA_MACHINE_WORDS, image, length, map, MOST_ENTRIES, store, WORDS, outputs,
+                                    CEMBUXOLA_CHANNELS, inputs, CEMBUXOLA_CHANNELS, answer, CEMBUXOLA_ANSWER_NUMBERS, n,
+                                    (uint16_t)requests);
+    steps += answer[0];
+    requests = answer[2];
+    return number;
+}
+
+static void print_reading(unsigned number)
+{
+    printf("stop %u code %u steps %u module %u pc %u depth %u\n", number, (unsigned)answer[1], (unsigned)steps, (unsigned)machine[0],
+           (unsigned)machine[1], (unsigned)machine[2]);
+    for (int i = 0; i < CEMBUXOLA_CHANNELS; i++)
+        printf(i == 0 ? "%u" : " %u", (unsigned)outputs[i]);
+    printf("\n");
+}
+
+static int read_and_run(const char *name, size_t length, uint32_t word, uint32_t after)
 {
     unsigned number = cembuxola_load(image, length, map, MOST_ENTRIES, place, CEMBUXOLA_PLACE_WORDS);
     if (number == CEMBUXOLA_NOT_WHOLE)
@@ -44,34 +70,61 @@ static int read_and_run(const char *name, size_t length)
     number = cembuxola_start(image, length, store, WORDS, machine, CEMBUXOLA_MACHINE_WORDS);
     if (number != CEMBUXOLA_ACCEPTED)
         return refused(number);
-    number = cembuxola_run(machine, CEMBUXOLA_MACHINE_WORDS, image, length, map, MOST_ENTRIES, store, WORDS, outputs,
-                           CEMBUXOLA_CHANNELS, inputs, CEMBUXOLA_CHANNELS, answer, CEMBUXOLA_ANSWER_NUMBERS, STEPS);
+    number = run(length, after < STEPS ? after : STEPS);
+    requests |= word;
+    if (number == CEMBUXOLA_SPENT)
+        number = run(length, STEPS - steps);
     if (number < CEMBUXOLA_SPENT)
         return refused(number);
-    printf("stop %u code %u steps %u module %u pc %u depth %u\n", number, (unsigned)answer[1], (unsigned)answer[0],
-           (unsigned)machine[0], (unsigned)machine[1], (unsigned)machine[2]);
-    for (int i = 0; i < CEMBUXOLA_CHANNELS; i++)
-        printf(i == 0 ? "%u" : " %u", (unsigned)outputs[i]);
-    printf("\n");
+    print_reading(number);
+    if (word != 0)
+        printf("requests %u\n", (unsigned)requests);
     return 0;
+}
+
+/* Whether the text is a decimal number of at most `most`, which is written then. */
+static int is_number(const char *text, uint32_t most, uint32_t *number)
+{
+    uint64_t value = 0;
+    int digits = 0;
+    for (; text[digits] >= '0' && text[digits] <= '9' && value <= most; digits++)
+        value = 10 * value + (uint64_t)(text[digits] - '0');
+    *number = (uint32_t)value;
+    return digits > 0 && text[digits] == '\0' && value <= most;
+}
+
+/* Whether the arguments are options with good values, and FILE behind them. */
+static int arguments_are_good(int count, char **arguments, uint32_t *word, uint32_t *after)
+{
+    int i = 1;
+    for (; i + 2 < count; i += 2) {
+        int is_requests = strcmp(arguments[i], "--requests") == 0;
+        if (!is_requests && strcmp(arguments[i], "--after") != 0)
+            return 0;
+        if (!is_number(arguments[i + 1], is_requests ? UINT16_MAX : UINT32_MAX, is_requests ? word : after))
+            return 0;
+    }
+    return i + 1 == count;
 }
 
 int main(int count, char **arguments)
 {
-    if (count != 2) {
-        fprintf(stderr, "usage: reading FILE\n");
+    uint32_t word = 0, after = 0;
+    if (!arguments_are_good(count, arguments, &word, &after)) {
+        fprintf(stderr, "usage: reading [--requests WORD] [--after N] FILE\n");
         return 2;
     }
-    FILE *file = fopen(arguments[1], "rb");
+    const char *name = arguments[count - 1];
+    FILE *file = fopen(name, "rb");
     if (file == NULL) {
-        perror(arguments[1]);
+        perror(name);
         return 2;
     }
     size_t length = fread(image, 1, MOST_BYTES, file);
     if (ferror(file)) {
-        perror(arguments[1]);
+        perror(name);
         return 2;
     }
     fclose(file);
-    return read_and_run(arguments[1], length);
+    return read_and_run(name, length, word, after);
 }

@@ -1,17 +1,26 @@
-//! reading FILE: the desk's reading of an image, by the wrapper: W = 4,096, inputs 0, outputs first 0, n = 1,000. Where code is not whole,
-//! standard error says at which place. It reads every image that load accepts, its map being as long as the image; the desk program's has
-//! 16,384 entries.
+//! reading [--requests WORD] [--after N] FILE: the desk's reading of an image, by the wrapper: W = 4,096, inputs 0, outputs first 0, n = 1,000.
+//! After N steps (0) without requests it goes on with the word of requests (0), unless the program has stopped; with a word other than 0 a third
+//! line has what is left of it. Where code is not whole, standard error says at which place. It reads every image that load accepts, its map
+//! being as long as the image; the desk program's has 16,384 entries.
 
-use cembuxola::{Cabinet, Refusal, CHANNELS};
+use cembuxola::{Cabinet, Ran, Refusal, Stop, CHANNELS};
 use std::process::ExitCode;
 
+const STEPS: u32 = 1000;
+
+struct Asked {
+    requests: u16,
+    after: u32,
+    file: String,
+}
+
 fn main() -> ExitCode {
-    let mut arguments = std::env::args().skip(1);
-    let (Some(file), None) = (arguments.next(), arguments.next()) else {
-        eprintln!("usage: reading FILE");
+    let Some(asked) = asked(std::env::args().skip(1)) else {
+        eprintln!("usage: reading [--requests WORD] [--after N] FILE");
         return ExitCode::from(2);
     };
-    let image = match std::fs::read(&file) {
+    let file = &asked.file;
+    let image = match std::fs::read(file) {
         Ok(image) => image,
         Err(error) => {
             eprintln!("{file}: {error}");
@@ -19,10 +28,36 @@ fn main() -> ExitCode {
         }
     };
     match Cabinet::new(&image, 4096) {
-        Ok(cabinet) => print_reading(cabinet),
-        Err(refusal) => print_refusal(&file, refusal),
+        Ok(cabinet) => print_reading(cabinet, &asked),
+        Err(refusal) => print_refusal(file, refusal),
     }
     ExitCode::SUCCESS
+}
+
+/// Options with their values, and FILE behind them.
+fn asked(mut arguments: impl Iterator<Item = String>) -> Option<Asked> {
+    let (mut requests, mut after) = (0, 0);
+    loop {
+        let argument = arguments.next()?;
+        match &argument[..] {
+            "--requests" => requests = number(&arguments.next()?)?,
+            "--after" => after = number(&arguments.next()?)?,
+            _ if arguments.next().is_some() => return None,
+            _ => {
+                return Some(Asked {
+                    requests,
+                    after,
+                    file: argument,
+                })
+            }
+        }
+    }
+}
+
+/// A number of digits alone.
+fn number<T: std::str::FromStr>(text: &str) -> Option<T> {
+    let digits = text.bytes().all(|byte| byte.is_ascii_digit());
+    text.parse().ok().filter(|_| digits)
 }
 
 fn print_refusal(file: &str, refusal: Refusal) {
@@ -32,12 +67,30 @@ fn print_refusal(file: &str, refusal: Refusal) {
     println!("refused {}", refusal.number());
 }
 
-fn print_reading(mut cabinet: Cabinet) {
-    let ran = cabinet.run(&[0; CHANNELS], 1000);
+/// Some steps without requests, then the rest with them, unless the program has stopped. What a run leaves of them is handed on to the next,
+/// with the bits of the lines that are requested in between.
+fn run(cabinet: &mut Cabinet, asked: &Asked) -> Ran {
+    let first = cabinet.run(&[0; CHANNELS], asked.after.min(STEPS), 0);
+    let requests = first.requests | asked.requests;
+    if first.stop != Stop::Spent {
+        return Ran { requests, ..first };
+    }
+    let rest = cabinet.run(&[0; CHANNELS], STEPS - first.count, requests);
+    Ran {
+        count: first.count + rest.count,
+        ..rest
+    }
+}
+
+fn print_reading(mut cabinet: Cabinet, asked: &Asked) {
+    let ran = run(&mut cabinet, asked);
     let machine = cabinet.machine();
     let (stop, code, steps) = (ran.stop.number(), ran.stop.code(), ran.count);
     let (module, pc, depth) = (machine.module(), machine.pc(), machine.depth());
     println!("stop {stop} code {code} steps {steps} module {module} pc {pc} depth {depth}");
     let outputs: Vec<String> = cabinet.outputs().iter().map(u16::to_string).collect();
     println!("{}", outputs.join(" "));
+    if asked.requests != 0 {
+        println!("requests {}", ran.requests);
+    }
 }

@@ -37,6 +37,7 @@ extern "C" {
         answer: *mut u32,
         answer_length: usize,
         n: u32,
+        requests: u16,
     ) -> u16;
 }
 
@@ -58,6 +59,7 @@ type Run = unsafe extern "C" fn(
     *mut u32,
     usize,
     u32,
+    u16,
 ) -> u16;
 
 /// The functions of a build of the library.
@@ -130,6 +132,7 @@ impl Library {
         inputs: &[u16],
         answer: &mut [u32],
         n: u32,
+        requests: u16,
     ) -> u16 {
         // SAFETY: as in `load`.
         unsafe {
@@ -149,9 +152,10 @@ impl Library {
                 answer.as_mut_ptr(),
                 answer.len(),
                 n,
+                requests,
             )
         }
     }
 }
 
-const _: () = assert!(PLACE_WORDS == 2 && MACHINE_WORDS == 24 && ANSWER_NUMBERS == 2);
+const _: () = assert!(PLACE_WORDS == 2 && MACHINE_WORDS == 24 && ANSWER_NUMBERS == 3);

@@ -19,8 +19,8 @@ use c::LINKED;
 pub const PLACE_WORDS: usize = 2;
 /// The words of a machine.
 pub const MACHINE_WORDS: usize = 24;
-/// The numbers of a run's answer: count and code.
-pub const ANSWER_NUMBERS: usize = 2;
+/// The numbers of a run's answer: count, code and the requests left.
+pub const ANSWER_NUMBERS: usize = 3;
 /// The inputs and the outputs of a run.
 pub const CHANNELS: usize = 16;
 
@@ -54,11 +54,14 @@ impl Machine {
     }
 }
 
-/// How a run stopped, and how many steps it made. The stopping instruction is not counted.
+/// How a run stopped, and how many steps it made. The stopping instruction is not counted; a line that was taken is.
 #[derive(Clone, Copy, Debug, PartialEq, Eq)]
 pub struct Ran {
     pub stop: Stop,
     pub count: u32,
+    /// What is left of the requests: the bits of the lines that were taken are cleared. The next run gets this word, with the bits of
+    /// the lines that were requested since.
+    pub requests: u16,
 }
 
 /// Tests an image and fills its map, which has as many entries as the image has bytes, or more. Where the code is not whole, the refusal
@@ -76,7 +79,15 @@ pub fn start(image: &[u8], store: &mut [u16]) -> Result<Machine, Refusal> {
     Ok(machine)
 }
 
-/// Makes at most n steps. A refused run leaves everything as it was.
+/// The bit of line i in a word of requests. Lines are 8 to 15.
+pub const fn line(i: u16) -> u16 {
+    assert!(8 <= i && i <= 15, "lines are 8 to 15");
+    1 << i
+}
+
+/// Makes at most n steps, with these requests: before an instruction the highest line is taken that is requested, not in M and not in store
+/// word 3. A refused run leaves everything as it was, the requests too.
+#[allow(clippy::too_many_arguments)]
 pub fn run(
     machine: &mut Machine,
     image: &[u8],
@@ -85,6 +96,7 @@ pub fn run(
     outputs: &mut [u16],
     inputs: &[u16],
     n: u32,
+    requests: u16,
 ) -> Result<Ran, Refusal> {
     let mut answer = [0; ANSWER_NUMBERS];
     let number = LINKED.run(
@@ -96,11 +108,17 @@ pub fn run(
         inputs,
         &mut answer,
         n,
+        requests,
     );
-    let [count, code] = answer;
+    let [count, code, left] = answer;
     // a code is a word
     let stop = Stop::numbered(number, code as u16).ok_or_else(|| Refusal::numbered(number))?;
-    Ok(Ran { stop, count })
+    Ok(Ran {
+        stop,
+        count,
+        // so are the requests left
+        requests: left as u16,
+    })
 }
 
 /// An accepted image with all that it runs in.
@@ -129,8 +147,9 @@ impl Cabinet {
         })
     }
 
-    /// Makes at most n steps. After an accepted start no run with 16 inputs is refused: that is the engine's third demand.
-    pub fn run(&mut self, inputs: &[u16; CHANNELS], n: u32) -> Ran {
+    /// Makes at most n steps, with these requests. After an accepted start no run with 16 inputs is refused: that is the engine's third
+    /// demand.
+    pub fn run(&mut self, inputs: &[u16; CHANNELS], n: u32, requests: u16) -> Ran {
         run(
             &mut self.machine,
             &self.image,
@@ -139,6 +158,7 @@ impl Cabinet {
             &mut self.outputs,
             inputs,
             n,
+            requests,
         )
         .expect("a run with 16 inputs after an accepted start is never refused")
     }

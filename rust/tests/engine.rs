@@ -22,7 +22,7 @@ fn not_whole(module: u16, position: u16) -> Refusal {
 
 fn stopped(code: &[u8], n: u32) -> (Ran, Cabinet) {
     let mut cabinet = Cabinet::new(&image(code), 4096).unwrap();
-    (cabinet.run(&INPUTS, n), cabinet)
+    (cabinet.run(&INPUTS, n, 0), cabinet)
 }
 
 #[test]
@@ -30,7 +30,7 @@ fn the_papers_reading() {
     let mut cabinet = Cabinet::new(&READING, 4096).unwrap();
     assert_eq!(cabinet.map()[..4], [UNMARKED; 4]);
     assert_eq!(cabinet.map()[4..], [0, 1, 2, 0]);
-    let ran = cabinet.run(&INPUTS, 1000);
+    let ran = cabinet.run(&INPUTS, 1000, 0);
     assert_eq!(
         (ran.stop, ran.stop.number(), ran.count),
         (Stop::Ended, 31, 3)
@@ -316,6 +316,7 @@ fn refusals_of_run_leave_everything() {
             &mut outputs,
             inputs,
             9,
+            0xFFFF,
         );
         assert_eq!(ran, Err(refusal));
         assert_eq!(
@@ -340,7 +341,7 @@ fn a_return_carries_what_was_promised() {
     let mut cabinet = Cabinet::new(&image(2), 4096).unwrap();
     let two = 2 << 5;
     assert_eq!(cabinet.map()[13..], [0, 2, UNMARKED, two, two + 1, two + 2]);
-    assert_eq!(cabinet.run(&INPUTS, 9).stop, Stop::Program(7));
+    assert_eq!(cabinet.run(&INPUTS, 9, 0).stop, Stop::Program(7));
     for results in [0, 1, 3, 4] {
         let refusal = Cabinet::new(&image(results), 4096).unwrap_err();
         assert_eq!(refusal, Refusal::NoDepths);
@@ -397,7 +398,7 @@ fn saved_words_are_tested_as_they_are_restored() {
     let first = start(&image, &mut store).unwrap();
     let steps = |machine: &mut Machine, store: &mut [u16], n: u32| {
         let outputs = &mut [0; CHANNELS];
-        let ran = run(machine, &image, &map, store, outputs, &INPUTS, n).unwrap();
+        let ran = run(machine, &image, &map, store, outputs, &INPUTS, n, 0).unwrap();
         (ran.stop, ran.count)
     };
     // room for two words and their count, and one too few
@@ -435,10 +436,10 @@ fn running_in_parts_is_running_at_once() {
     let counter = [&[1, 1, 0, 8, 0, 9][..], &code].concat();
     let mut whole = Cabinet::new(&counter, 4096).unwrap();
     let mut parts = whole.clone();
-    let all = whole.run(&INPUTS, 40);
+    let all = whole.run(&INPUTS, 40, 0);
     let counts: u32 = [3, 0, 17, 20]
         .iter()
-        .map(|&n| parts.run(&INPUTS, n).count)
+        .map(|&n| parts.run(&INPUTS, n, 0).count)
         .sum();
     assert_eq!((counts, whole.outputs()[2]), (all.count, 5));
     assert_eq!(parts.machine(), whole.machine());

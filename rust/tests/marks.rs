@@ -73,7 +73,7 @@ fn the_marks_of_an_example() {
     for (position, expected) in cases {
         assert_eq!(read(code[position]), expected, "{position}");
     }
-    let ran = cabinet.run(&[0; CHANNELS], 1000);
+    let ran = cabinet.run(&[0; CHANNELS], 1000, 0);
     assert_eq!((ran.stop.number(), ran.count), (31, 276));
     assert_eq!(cabinet.outputs()[..6], [16, 478, 19_220, 7_731, 911, 6_316]);
 }

@@ -30,8 +30,8 @@ impl LoadAnswer {
     }
 }
 
-/// What run answers. A refused run answers its number, code 0, count 0 and
-/// the machine as given.
+/// What run answers. A refused run answers its number, code 0, count 0, and
+/// the requests and the machine as given.
 #[derive(Clone, Copy, Debug, PartialEq, Eq)]
 pub struct RunAnswer {
     /// A refusal 1 to 12 or a stop 30 to 40.
@@ -40,6 +40,8 @@ pub struct RunAnswer {
     pub code: u16,
     /// Steps done. "The stopping instruction is not counted."
     pub count: u32,
+    /// What is left of the word of requests.
+    pub requests: u16,
     pub machine: Machine,
 }
 
@@ -78,24 +80,9 @@ pub fn start(image: &[u8], store: &mut [u16]) -> (u8, Machine) {
     }
 }
 
-/// Makes at most n steps.
-pub fn run(
-    machine: Machine,
-    image: &[u8],
-    map: &[u32],
-    store: &mut [u16],
-    outputs: &mut [u16],
-    inputs: &[u16],
-    n: u32,
-) -> RunAnswer {
-    let buffers = Buffers {
-        image,
-        map,
-        store,
-        outputs,
-        inputs,
-    };
-    run_observed(machine, buffers, n, &mut ())
+/// Makes at most n steps, of which lines of the requests are some.
+pub fn run(machine: Machine, buffers: Buffers, requests: u16, n: u32) -> RunAnswer {
+    run_observed(machine, buffers, requests, n, &mut ())
 }
 
 /// Buffers as the caller has them, of any length.
@@ -111,15 +98,18 @@ pub struct Buffers<'a> {
 pub fn run_observed<O: Observer>(
     machine: Machine,
     buffers: Buffers,
+    requests: u16,
     n: u32,
     observer: &mut O,
 ) -> RunAnswer {
     match admit(&machine, buffers) {
-        Ok((program, lent)) => exec::execute(&program, lent, machine, n, observer),
+        Ok((program, lent)) => exec::execute(&program, lent, machine, requests, n, observer),
+        // A.7: "A refused run returns the word as given."
         Err(refusal) => RunAnswer {
             number: refusal,
             code: 0,
             count: 0,
+            requests,
             machine,
         },
     }
@@ -161,37 +151,80 @@ fn admit<'a>(machine: &Machine, buffers: Buffers<'a>) -> Result<(Program, Lent<'
 }
 
 /// "A whole reading": load, start and run with "W = 4,096, inputs 0, outputs
-/// first 0, n = 1,000". A.5: "The desk program's map has 16,384 entries". The
-/// text ends in a line feed.
+/// first 0, n = 1,000". A.5: "The desk program's map has 16,384 entries". A.7:
+/// "The desk program gives 0." The text ends in a line feed.
 pub fn desk(image: &[u8]) -> String {
+    desk_with(image, 0, 0)
+}
+
+/// The same with any requests, which are given after so many steps of the 1,000. If
+/// they are not 0, a third line has what is left of them.
+pub fn desk_with(image: &[u8], requests: u16, after: u32) -> String {
+    match desk_run(image, requests, after) {
+        Ok((answer, outputs)) if requests == 0 => reading(&answer, &outputs),
+        Ok((answer, outputs)) => {
+            let left = answer.requests;
+            format!("{}requests {left}\n", reading(&answer, &outputs))
+        }
+        Err(refusal) => format!("refused {refusal}\n"),
+    }
+}
+
+/// The desk's run and its outputs, or the first refusal.
+fn desk_run(image: &[u8], requests: u16, after: u32) -> Result<(RunAnswer, [u16; 16]), u8> {
     const WORDS: usize = 4_096;
     const STEPS: u32 = 1_000;
     const ENTRIES: usize = 16_384;
-    let refused = |refusal: u8| format!("refused {refusal}\n");
-
+    let accepted = |refusal: u8| match refusal {
+        number::ACCEPTED => Ok(()),
+        _ => Err(refusal),
+    };
     let mut map = vec![UNMARKED; ENTRIES];
-    let refusal = load(image, &mut map).number;
-    if refusal != number::ACCEPTED {
-        return refused(refusal);
-    }
+    accepted(load(image, &mut map).number)?;
     let mut store = vec![0; WORDS];
     let (refusal, machine) = start(image, &mut store);
-    if refusal != number::ACCEPTED {
-        return refused(refusal);
-    }
+    accepted(refusal)?;
     let mut outputs = [0; 16];
-    let answer = run(
-        machine,
-        image,
-        &map,
-        &mut store,
-        &mut outputs,
-        &[0; 16],
-        STEPS,
-    );
-    if answer.number < number::SPENT {
-        return refused(answer.number);
+    let run = |machine, requests, n| {
+        let buffers = Buffers {
+            image,
+            map: &map,
+            store: &mut store,
+            outputs: &mut outputs,
+            inputs: &[0; 16],
+        };
+        run(machine, buffers, requests, n)
+    };
+    let answer = run_after(machine, requests, after.min(STEPS), STEPS, run);
+    match answer.number {
+        number::SPENT.. => Ok((answer, outputs)),
+        refusal => Err(refusal),
     }
+}
+
+/// A run of `after` steps without requests and, if it does not stop before, a run
+/// with them up to n steps in all. Requests that are never given are left as they
+/// are.
+fn run_after(
+    machine: Machine,
+    requests: u16,
+    after: u32,
+    n: u32,
+    mut run: impl FnMut(Machine, u16, u32) -> RunAnswer,
+) -> RunAnswer {
+    let first = run(machine, 0, after);
+    if first.number != number::SPENT {
+        return RunAnswer { requests, ..first };
+    }
+    let second = run(first.machine, requests, n - after);
+    RunAnswer {
+        count: first.count + second.count,
+        ..second
+    }
+}
+
+/// The two lines of a reading.
+fn reading(answer: &RunAnswer, outputs: &[u16; 16]) -> String {
     let Machine {
         module, pc, depth, ..
     } = answer.machine;

@@ -6,7 +6,9 @@
 //! outputs are set; then every run follows, whatever load and start answered.
 //! Before a run its patches are written into the map and into the store. The
 //! machine handed to a run is its own, if it has one, else the one that start
-//! or the run before returned.
+//! or the run before returned. The word of requests is its own, if it has one,
+//! else the one that the run before returned, also a refused one; the first
+//! run's is 0.
 //!
 //! # The file
 //!
@@ -14,7 +16,7 @@
 //! high word first. Each list is preceded by its length.
 //!
 //! ```text
-//! file:    4D43 hex, 3, long number of cases, the cases
+//! file:    4D43 hex, 4, long number of cases, the cases
 //! case:    long image length, image bytes (two a word, the first one high;
 //!            an odd last one is followed by a byte 0)
 //!          long map length, long entry that fills the map
@@ -22,6 +24,8 @@
 //!          number of outputs, outputs
 //!          number of runs, the runs
 //! run:     long budget
+//!          0, or 1 and the word of requests (else the word that the run
+//!            before returned, also a refused one; the first run's is 0)
 //!          0, or 1 and the number of inputs, inputs (else those of the run
 //!            before; the first run's are none)
 //!          0, or 1 and a machine
@@ -39,10 +43,12 @@
 use crate::api::{self, Buffers, LoadAnswer, RunAnswer};
 use crate::exec::Observer;
 use crate::machine::Machine;
+use crate::number::PROCESS;
+use crate::request::{highest, open, HELD};
 use std::fmt;
 
 const MAGIC: u16 = 0x4D43;
-const VERSION: u16 = 3;
+const VERSION: u16 = 4;
 
 /// The most bytes, entries or words of an image, a map or a store.
 pub const LONGEST: usize = 65_600;
@@ -63,6 +69,7 @@ pub struct Case {
 #[derive(Clone, Debug, Default, PartialEq, Eq)]
 pub struct CaseRun {
     pub budget: u32,
+    pub requests: Option<u16>,
     pub inputs: Vec<u16>,
     pub machine: Option<Machine>,
     pub map_patches: Vec<(u16, u32)>,
@@ -75,8 +82,9 @@ pub struct CaseRun {
 pub struct Checksum(pub u32, pub u32);
 
 impl Checksum {
-    pub fn of(words: impl Iterator<Item = u16>) -> Checksum {
-        words.fold(Checksum(1, 1), |Checksum(first, second), word| {
+    pub fn of(words: &[u16]) -> Checksum {
+        let start = Checksum(1, 1);
+        words.iter().fold(start, |Checksum(first, second), &word| {
             let word = u32::from(word);
             Checksum((31 * first + word) % 65_521, (257 * second + word) % 65_519)
         })
@@ -102,14 +110,58 @@ pub struct Outcome {
     pub runs: Vec<RunOutcome>,
 }
 
-/// The machine handed to a run, its answer, and the outputs and the store after
-/// it.
+/// What a run was handed, its answer, and what it left.
 #[derive(Clone, Debug, PartialEq, Eq)]
 pub struct RunOutcome {
     pub handed: Machine,
+    pub requests: u16,
+    /// The store before the run and after it.
+    pub before: Vec<u16>,
+    pub after: Vec<u16>,
     pub answer: RunAnswer,
     pub outputs: Vec<u16>,
-    pub store: Checksum,
+}
+
+impl RunOutcome {
+    /// The lines that were taken: each has cleared its bit.
+    pub fn taken(&self) -> u16 {
+        self.requests & !self.answer.requests
+    }
+
+    /// Whether an instruction is the only step.
+    pub fn is_instruction(&self) -> bool {
+        self.answer.count == 1 && self.taken() == 0
+    }
+
+    /// The line that is the only step, if one is.
+    pub fn line(&self) -> Option<u8> {
+        match self.answer.count {
+            1 => highest(self.taken()),
+            _ => None,
+        }
+    }
+
+    /// The lines that were open before a run that is not refused.
+    pub fn open_before(&self) -> u16 {
+        open(self.requests, self.handed.m, self.before[HELD])
+    }
+
+    /// The same after it.
+    pub fn open_after(&self) -> u16 {
+        open(
+            self.answer.requests,
+            self.answer.machine.m,
+            self.after[HELD],
+        )
+    }
+
+    /// The line whose transfer failed, if one did: what it found is left.
+    pub fn failed(&self) -> Option<u8> {
+        match self.answer.number {
+            PROCESS => highest(self.open_after()),
+            _ => None,
+        }
+    }
 }
 
 /// Replays a case.
@@ -123,15 +175,16 @@ pub fn replay<O: Observer>(case: &Case, observer: &mut O) -> Outcome {
         load,
         map: map.clone(),
         start,
-        store: Checksum::of(store.iter().copied()),
+        store: Checksum::of(&store),
         machine: first_machine,
         runs: Vec::with_capacity(case.runs.len()),
     };
-    let mut machine = first_machine;
+    let (mut machine, mut left) = (first_machine, 0);
     let mut outputs = case.outputs.clone();
     for run in &case.runs {
         write_patches(&mut map, &run.map_patches);
         write_patches(&mut store, &run.store_patches);
+        let before = store.clone();
         let buffers = Buffers {
             image,
             map: &map,
@@ -140,13 +193,16 @@ pub fn replay<O: Observer>(case: &Case, observer: &mut O) -> Outcome {
             inputs: &run.inputs,
         };
         let handed = run.machine.unwrap_or(machine);
-        let answer = api::run_observed(handed, buffers, run.budget, observer);
-        machine = answer.machine;
+        let requests = run.requests.unwrap_or(left);
+        let answer = api::run_observed(handed, buffers, requests, run.budget, observer);
+        (machine, left) = (answer.machine, answer.requests);
         outcome.runs.push(RunOutcome {
             handed,
+            requests,
+            before,
+            after: store.clone(),
             answer,
             outputs: outputs.clone(),
-            store: Checksum::of(store.iter().copied()),
         });
     }
     outcome
@@ -238,13 +294,14 @@ impl fmt::Display for Outcome {
             let answer = &run.answer;
             writeln!(
                 f,
-                "run {} code {} count {} {} outputs{} store {}",
+                "run {} code {} count {} requests {} {} outputs{} store {}",
                 answer.number,
                 answer.code,
                 answer.count,
+                answer.requests,
                 MachineText(&answer.machine),
                 Words(&run.outputs),
-                run.store,
+                Checksum::of(&run.after),
             )?;
         }
         Ok(())
@@ -257,41 +314,7 @@ pub fn encode(cases: &[Case]) -> Vec<u8> {
     out.word(MAGIC);
     out.word(VERSION);
     out.long(cases.len() as u32);
-    for case in cases {
-        out.long(case.image.len() as u32);
-        out.0.extend(&case.image);
-        out.0.resize(out.0.len().next_multiple_of(2), 0);
-        out.long(case.map_length as u32);
-        out.long(case.map_fill);
-        out.long(case.store_length as u32);
-        out.word(case.store_fill);
-        out.list(&case.outputs);
-        out.word(case.runs.len() as u16);
-        let mut inputs: &[u16] = &[];
-        for run in &case.runs {
-            out.long(run.budget);
-            out.word(u16::from(run.inputs != inputs));
-            if run.inputs != inputs {
-                out.list(&run.inputs);
-                inputs = &run.inputs;
-            }
-            out.word(u16::from(run.machine.is_some()));
-            if let Some(machine) = &run.machine {
-                registers(machine).iter().for_each(|&word| out.word(word));
-                out.list(stack(machine));
-            }
-            out.word(run.map_patches.len() as u16);
-            for &(offset, entry) in &run.map_patches {
-                out.word(offset);
-                out.long(entry);
-            }
-            out.word(run.store_patches.len() as u16);
-            for &(address, word) in &run.store_patches {
-                out.word(address);
-                out.word(word);
-            }
-        }
-    }
+    cases.iter().for_each(|case| out.case(case));
     out.0
 }
 
@@ -309,6 +332,51 @@ impl Output {
     fn list(&mut self, words: &[u16]) {
         self.word(words.len() as u16);
         words.iter().for_each(|&word| self.word(word));
+    }
+
+    fn case(&mut self, case: &Case) {
+        self.long(case.image.len() as u32);
+        self.0.extend(&case.image);
+        self.0.resize(self.0.len().next_multiple_of(2), 0);
+        self.long(case.map_length as u32);
+        self.long(case.map_fill);
+        self.long(case.store_length as u32);
+        self.word(case.store_fill);
+        self.list(&case.outputs);
+        self.word(case.runs.len() as u16);
+        let mut inputs: &[u16] = &[];
+        for run in &case.runs {
+            self.run(run, inputs);
+            inputs = &run.inputs;
+        }
+    }
+
+    /// A run behind one with these inputs.
+    fn run(&mut self, run: &CaseRun, inputs: &[u16]) {
+        self.long(run.budget);
+        self.word(u16::from(run.requests.is_some()));
+        run.requests
+            .iter()
+            .for_each(|&requests| self.word(requests));
+        self.word(u16::from(run.inputs != inputs));
+        if run.inputs != inputs {
+            self.list(&run.inputs);
+        }
+        self.word(u16::from(run.machine.is_some()));
+        if let Some(machine) = &run.machine {
+            registers(machine).iter().for_each(|&word| self.word(word));
+            self.list(stack(machine));
+        }
+        self.word(run.map_patches.len() as u16);
+        for &(offset, entry) in &run.map_patches {
+            self.word(offset);
+            self.long(entry);
+        }
+        self.word(run.store_patches.len() as u16);
+        for &(address, word) in &run.store_patches {
+            self.word(address);
+            self.word(word);
+        }
     }
 }
 
@@ -402,6 +470,9 @@ impl<'a> Input<'a> {
             budget: self.long()? as u32,
             ..CaseRun::default()
         };
+        if self.follows()? {
+            run.requests = Some(self.word()?);
+        }
         if self.follows()? {
             run.inputs = self.list()?;
         } else if let Some(before) = case.runs.last() {

@@ -1,16 +1,19 @@
 //! What generated cases reach: opcodes, traps of opcodes, refusals, what A.2
 //! makes of result counts, what A.3 makes of code that is not whole, what
-//! collides in transfers, what A.5 makes of saved depths, and what A.6 makes of
-//! unsigned results.
+//! collides in transfers, what A.5 makes of saved depths, what A.6 makes of
+//! unsigned results, and what A.7 makes of lines.
 
 use crate::case::{replay, Case};
 use crate::exec::Observer;
 use crate::image::parse;
 use crate::lent::LentMaps;
+use crate::lines::ClockLines;
 use crate::machine::Machine;
 use crate::number::*;
 use crate::opcode::{self, row, PAIRS};
 use crate::pair::first_address;
+use crate::request::{FIRST, LAST};
+use crate::requests::Requests;
 use crate::results::Results;
 use crate::saved::Expressions;
 use crate::transfers::Transfers;
@@ -20,8 +23,7 @@ use std::fmt::Write;
 
 /// Counts of what was reached.
 pub struct Coverage {
-    /// Steps of each opcode.
-    steps: [u64; 256],
+    steps: Steps,
     /// Stops of each opcode, by number less 31: the end and the traps.
     stops: [[u64; 10]; 256],
     /// Stops with 32 of each load and store of a pair, by [`FAILING`].
@@ -36,11 +38,13 @@ pub struct Coverage {
     expressions: Expressions,
     lent_maps: LentMaps,
     unsigned: Unsigned,
+    clock_lines: ClockLines,
+    requests: Requests,
     cases: u64,
 }
 
 /// A line of the report: what was reached, its kinds and their counts.
-pub type Line = (&'static str, Vec<(String, u64)>);
+pub type Reached = (&'static str, Vec<(String, u64)>);
 
 /// The kinds of a line, with these names.
 pub fn named<T: ToString>(names: &[T], counts: &[u64]) -> Vec<(String, u64)> {
@@ -48,9 +52,29 @@ pub fn named<T: ToString>(names: &[T], counts: &[u64]) -> Vec<(String, u64)> {
     names.zip(counts.iter().copied()).collect()
 }
 
-impl Observer for [u64; 256] {
+/// Counts of steps.
+#[derive(Clone, Copy)]
+pub struct Steps {
+    /// Of each opcode.
+    pub opcodes: [u64; 256],
+    /// Of each line.
+    pub lines: [u64; 16],
+}
+
+impl Steps {
+    pub const NONE: Steps = Steps {
+        opcodes: [0; 256],
+        lines: [0; 16],
+    };
+}
+
+impl Observer for Steps {
     fn done(&mut self, opcode: u8) {
-        self[usize::from(opcode)] += 1;
+        self.opcodes[usize::from(opcode)] += 1;
+    }
+
+    fn taken(&mut self, line: u8) {
+        self.lines[usize::from(line)] += 1;
     }
 }
 
@@ -60,7 +84,7 @@ const ANSWERS: usize = 14;
 /// Refusals that each call can answer, with 0 where it accepts.
 const LOAD: [u8; 10] = [0, 1, 2, 3, 4, 5, 6, 7, 8, 13];
 const START: [u8; 8] = [0, 1, 2, 3, 4, 5, 6, 9];
-const RUN: [u8; 11] = [1, 2, 3, 4, 5, 6, 7, 9, 10, 11, 12];
+pub const RUN: [u8; 11] = [1, 2, 3, 4, 5, 6, 7, 9, 10, 11, 12];
 
 /// What fails where a pair stops with 32. The first two must be reached: the
 /// second address alone fails where the high word is the store's last.
@@ -109,7 +133,7 @@ impl Coverage {
     /// Replays the cases.
     pub fn of(cases: impl Iterator<Item = Case>) -> Coverage {
         let mut coverage = Coverage {
-            steps: [0; 256],
+            steps: Steps::NONE,
             stops: [[0; 10]; 256],
             pairs: [[0; 3]; 256],
             spent: 0,
@@ -122,6 +146,8 @@ impl Coverage {
             expressions: Expressions::default(),
             lent_maps: LentMaps::default(),
             unsigned: Unsigned::default(),
+            clock_lines: ClockLines::default(),
+            requests: Requests::default(),
             cases: 0,
         };
         cases.for_each(|case| coverage.add(&case));
@@ -139,10 +165,13 @@ impl Coverage {
         self.expressions.add(case, &outcome);
         self.lent_maps.add(case, &outcome);
         self.unsigned.add(case, &outcome);
+        self.clock_lines.add(case, &outcome);
+        self.requests.add(case, &outcome);
         for run in outcome.runs {
             let answer = run.answer;
             match answer.number {
                 SPENT => self.spent += 1,
+                PROCESS if run.failed().is_some() => {}
                 ENDED..=PROGRAM => self.add_stop(case, answer.number, &answer.machine),
                 refusal => self.run[usize::from(refusal)] += 1,
             }
@@ -172,7 +201,7 @@ impl Coverage {
             let name = format!("opcode {opcode:03o} {}", row(opcode).mnemonic);
             // 304 always traps.
             let steps = opcode::row(opcode).length != 0 && opcode != opcode::TRAP;
-            match (steps, self.steps[usize::from(opcode)]) {
+            match (steps, self.steps.opcodes[usize::from(opcode)]) {
                 (true, 0) => faults.push(format!("{name} was never executed")),
                 (false, 1..) => faults.push(format!("{name} was executed")),
                 _ => {}
@@ -207,14 +236,16 @@ impl Coverage {
         faults
     }
 
-    /// What was reached of A.2, of A.3, of transfers, of A.5 and of A.6.
-    fn kinds(&self) -> impl Iterator<Item = Line> {
-        let mut lines = self.results.lines();
-        lines.extend(self.whole.lines());
-        lines.extend(self.transfers.lines());
-        lines.extend(self.expressions.lines());
-        lines.extend(self.lent_maps.lines());
-        lines.extend(self.unsigned.lines());
+    /// What was reached of A.2, of A.3, of transfers, of A.5, of A.6 and of A.7.
+    fn kinds(&self) -> impl Iterator<Item = Reached> {
+        let mut lines = self.results.reached();
+        lines.extend(self.whole.reached());
+        lines.extend(self.transfers.reached());
+        lines.extend(self.expressions.reached());
+        lines.extend(self.lent_maps.reached());
+        lines.extend(self.unsigned.reached());
+        lines.extend(self.clock_lines.reached());
+        lines.extend(self.requests.reached());
         lines.into_iter()
     }
 
@@ -283,10 +314,15 @@ impl Coverage {
         for opcodes in listed.chunks(8) {
             let pair = |&opcode: &u8| {
                 let name = format!("{opcode:03o} {}", row(opcode).mnemonic);
-                (name, self.steps[usize::from(opcode)])
+                (name, self.steps.opcodes[usize::from(opcode)])
             };
             line("steps", opcodes.iter().map(pair).collect());
         }
+        let pair = |number: u8| {
+            let name = format!("line {number}");
+            (name, self.steps.lines[usize::from(number)])
+        };
+        line("steps", (FIRST..=LAST).map(pair).collect());
         text
     }
 }

@@ -9,6 +9,7 @@ use crate::api::RunAnswer;
 use crate::image::{Procedure, Program};
 use crate::machine::Machine;
 use crate::number;
+use crate::request::{self, HELD, LINES};
 
 /// What a run is lent. The slices have passed run's tests.
 pub struct Lent<'a> {
@@ -19,15 +20,21 @@ pub struct Lent<'a> {
     pub inputs: &'a [u16; 16],
 }
 
-/// Sees each instruction that is counted.
+/// Sees each step that is counted.
 pub trait Observer {
+    /// An instruction is done.
     fn done(&mut self, opcode: u8);
+    /// A line is taken.
+    fn taken(&mut self, line: u8);
 }
 
 /// Sees nothing.
 impl Observer for () {
     #[inline(always)]
     fn done(&mut self, _: u8) {}
+
+    #[inline(always)]
+    fn taken(&mut self, _: u8) {}
 }
 
 /// What the loop uses of the module that it is in.
@@ -52,7 +59,8 @@ impl<'a> Here<'a> {
     }
 }
 
-/// Steps until a stop: 30 after n steps, 31 at the end, or a trap. "A trap or
+/// Steps until a stop: 30 after n steps, 31 at the end, or a trap. A line that is
+/// open comes before the instruction, also before an end or a trap. "A trap or
 /// an end leaves everything as before its instruction", so every arm below
 /// stops before it alters anything. Not inlined: the loop wants all registers.
 #[inline(never)]
@@ -60,6 +68,7 @@ pub fn execute<O: Observer>(
     program: &Program,
     lent: Lent,
     machine: Machine,
+    mut requests: u16,
     n: u32,
     observer: &mut O,
 ) -> RunAnswer {
@@ -243,10 +252,47 @@ pub fn execute<O: Observer>(
             }
         };
     }
+    // Goes on with the machine that a change of process leaves, or traps.
+    macro_rules! resume {
+        ($changed:expr) => {
+            match $changed {
+                Err(trap) => break (trap, 0),
+                Ok(resumed) => {
+                    Machine {
+                        module,
+                        p,
+                        l,
+                        s,
+                        h,
+                        m,
+                        stack,
+                        ..
+                    } = resumed;
+                    pc = usize::from(resumed.pc);
+                    depth = usize::from(resumed.depth);
+                    here = Here::new(program, image, module);
+                }
+            }
+        };
+    }
 
     let (stop, code) = loop {
         if left == 0 {
             break (number::SPENT, 0);
+        }
+        // A.7: "Before an instruction, the highest line is taken that is in the
+        // requests, not in M and not in store word 3. [...] It counts as a step
+        // and clears its bit. [...] A failed transfer is trap 35 with the bit
+        // kept."
+        if requests & LINES != 0 {
+            let open = request::open(requests, m, store[HELD]);
+            if let Some(line) = request::highest(open) {
+                resume!(take_line(program, map, store, gather!(), line));
+                requests &= !request::bit(line);
+                observer.taken(line);
+                left -= 1;
+                continue;
+            }
         }
         let opcode = here.code[pc];
         let low = opcode & 0o17;
@@ -627,24 +673,7 @@ pub fn execute<O: Observer>(
                 pc += 1;
             }
 
-            0o256 => match transfer(program, map, store, &gather!(), byte!(1) != 0) {
-                Err(trap) => break (trap, 0),
-                Ok(resumed) => {
-                    Machine {
-                        module,
-                        p,
-                        l,
-                        s,
-                        h,
-                        m,
-                        stack,
-                        ..
-                    } = resumed;
-                    pc = usize::from(resumed.pc);
-                    depth = usize::from(resumed.depth);
-                    here = Here::new(program, image, module);
-                }
-            },
+            0o256 => resume!(transfer(program, map, store, gather!(), byte!(1) != 0)),
 
             _ => unreachable!("a marked position holds a listed opcode"),
         }
@@ -657,6 +686,7 @@ pub fn execute<O: Observer>(
         number: stop,
         code,
         count: n - left,
+        requests,
         machine: gather!(),
     }
 }
@@ -707,14 +737,14 @@ fn marked(program: &Program, map: &[u32], base: u16, position: u16, depth: u8) -
         .then_some(module as u8)
 }
 
-/// "256 b, TRANSFER: a and c are addresses (32, a first); q = word a." Answers
-/// the machine after the instruction, or the trap.
+/// "256 b, TRANSFER: a and c are addresses (32, a first)". Answers the machine
+/// after the instruction, or the trap.
 #[cold]
 fn transfer(
     program: &Program,
     map: &[u32],
     store: &mut [u16],
-    machine: &Machine,
+    machine: Machine,
     change_mask: bool,
 ) -> Result<Machine, u8> {
     let depth = usize::from(machine.depth) - 2;
@@ -723,38 +753,79 @@ fn transfer(
     if to >= store.len() || from >= store.len() {
         return Err(number::ADDRESS);
     }
-    let mut saved = Machine {
+    // "the remaining stack", "next position"
+    let old = Machine {
         pc: machine.pc + 2,
         depth: depth as u8,
-        ..*machine
+        ..machine
     };
-    let q = store[to];
-    // "If q = P, word c becomes P and no more."
-    if q == saved.p {
-        store[from] = saved.p;
-        return Ok(saved);
+    let change = Change {
+        to,
+        from,
+        mask: change_mask,
+    };
+    change_process(program, map, store, old, change)
+}
+
+/// A.7: "It makes a transfer with the mask changed, the target in word 2i, the
+/// old process to word 2i + 1, the saved position being the instruction about to
+/// run and the whole stack saved."
+#[cold]
+fn take_line(
+    program: &Program,
+    map: &[u32],
+    store: &mut [u16],
+    machine: Machine,
+    line: u8,
+) -> Result<Machine, u8> {
+    let change = Change {
+        to: request::target_word(line).into(),
+        from: request::old_word(line).into(),
+        mask: true,
+    };
+    change_process(program, map, store, machine, change)
+}
+
+/// What TRANSFER and a line say about a change of process.
+struct Change {
+    /// The word that names the target.
+    to: usize,
+    /// The word that the old process goes to.
+    from: usize,
+    /// Whether M changes.
+    mask: bool,
+}
+
+/// The change of process that TRANSFER and a line make. `old` has the position
+/// and the stack that are saved. Answers the machine that goes on, or the trap.
+fn change_process(
+    program: &Program,
+    map: &[u32],
+    store: &mut [u16],
+    mut old: Machine,
+    change: Change,
+) -> Result<Machine, u8> {
+    let q = store[change.to];
+    // "If q = P, word c becomes P and no more." A.7: "A target equal to P, also a
+    // step, only writes word 2i + 1 and clears the bit."
+    if q == old.p {
+        store[change.from] = old.p;
+        return Ok(old);
     }
     // "reading the store as before the instruction": all of it is read here,
     // before the first write.
     let mut restored = read_process(program, map, store, q).ok_or(number::PROCESS)?;
-    if !change_mask {
-        restored.m = saved.m;
+    if !change.mask {
+        restored.m = old.m;
     }
     // "Then save: the remaining stack from S up, top first, then its count; S
     // raised past it; G, L, next position, M, S, H+24 to P..P+5. Word c = P;
     // P = q. [...] Colliding writes keep the last in this order."
-    saved.s = save(store, saved.s, &saved.stack[..depth]);
-    let base = program.modules[usize::from(saved.module)].base as u16;
-    let record = [
-        base,
-        saved.l,
-        saved.pc,
-        saved.m,
-        saved.s,
-        saved.h + Machine::MARGIN,
-    ];
-    store[usize::from(saved.p)..][..record.len()].copy_from_slice(&record);
-    store[from] = saved.p;
+    old.s = save(store, old.s, &old.stack[..usize::from(old.depth)]);
+    let base = program.modules[usize::from(old.module)].base as u16;
+    let record = [base, old.l, old.pc, old.m, old.s, old.h + Machine::MARGIN];
+    store[usize::from(old.p)..][..record.len()].copy_from_slice(&record);
+    store[change.from] = old.p;
     Ok(restored)
 }
 

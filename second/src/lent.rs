@@ -2,7 +2,7 @@
 //! other reason than saved depths or an entry that no mark has.
 
 use crate::case::{each_run, Case, Outcome};
-use crate::coverage::{named, Line};
+use crate::coverage::{named, Reached};
 use crate::depths::{entry_marks, fits, position_fits, MOST_RESTORED};
 use crate::image::{parse, Module, Program};
 use crate::mark::{saved_bit, Mark, MOST, MOST_RESULTS, MOST_SAVED, UNMARKED};
@@ -126,7 +126,7 @@ impl LentMaps {
     }
 
     /// The lines of the report: what was reached, its kinds and their counts.
-    pub fn lines(&self) -> Vec<Line> {
+    pub fn reached(&self) -> Vec<Reached> {
         let other = ["a mark with other saved depths"];
         vec![
             (

@@ -1,5 +1,5 @@
 //! A second interpreter of M-code, written from the paper and its change
-//! requests A.1 to A.6 alone, against which another engine is compared.
+//! requests A.1 to A.7 alone, against which another engine is compared.
 //!
 //! [`load`], [`start`] and [`run`] are the paper's calls, [`desk`] is its "A
 //! whole reading". Octal literals are the paper's opcodes, and quotations in
@@ -10,17 +10,21 @@
 pub mod api;
 pub mod assemble;
 pub mod case;
+pub mod collisions;
 pub mod coverage;
 pub mod depths;
 pub mod exec;
 pub mod gen;
 pub mod image;
 pub mod lent;
+pub mod lines;
 pub mod machine;
 pub mod mark;
 pub mod number;
 pub mod opcode;
 pub mod pair;
+pub mod request;
+pub mod requests;
 pub mod results;
 pub mod saved;
 pub mod transfers;
@@ -28,5 +32,5 @@ pub mod unsigned;
 pub mod walk;
 pub mod whole;
 
-pub use api::{desk, load, run, start, LoadAnswer, RunAnswer};
+pub use api::{desk, desk_with, load, run, start, LoadAnswer, RunAnswer};
 pub use machine::Machine;

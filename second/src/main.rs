@@ -1,20 +1,25 @@
 //! The command line of the second interpreter.
 
+use second::api::Buffers;
 use second::assemble::{encode, Source};
 use second::image::parse;
 use second::walk::{first_fault, Fault};
 use second::{case, coverage::Coverage, gen, load, number};
 use std::ffi::{OsStr, OsString};
+use std::fmt::Display;
 use std::fs::File;
 use std::io::{self, Read, Write};
 use std::process::ExitCode;
+use std::str::FromStr;
 use std::time::Instant;
 
 const HELP: &str = "\
 A second interpreter of M-code.
 
-usage: second reading [FILE]
-           print the desk's reading of an image, from FILE or standard input
+usage: second reading [--requests WORD] [--after N] [FILE]
+           print the desk's reading of an image, from FILE or standard input;
+           with a word of requests that is not 0, which is given after N
+           steps, also what is left of it
        second map FILE
            print load's number; for 13 also the module, the position and the
            cause; and if it accepts, the map in hex, eight digits an entry:
@@ -24,7 +29,7 @@ usage: second reading [FILE]
        second coverage [--small] [--seed N] [--cases N]
            replay generated cases and print what they reach; exit 1 if an
            opcode, a stop, a refusal, a collision of a transfer or a kind of
-           A.2, A.3, A.5 or A.6 is missing
+           A.2, A.3, A.5, A.6 or A.7 is missing
        second coverage CASES
            the same for the cases of a file
        second cases [--small] [--seed N] [--count N] OUT
@@ -36,8 +41,10 @@ usage: second reading [FILE]
        second --help
            print this
 
-N is a decimal number. Seeds are 1 unless given, cases 2000. With --small most
-cases have small images and few runs, and a few have the largest sizes.
+N is a decimal number, WORD one of 0 to 65535. WORD is 0 unless given, the N of
+--after 0 and at most 4294967295. Seeds are 1 unless given, cases 2000. With
+--small most cases have small images and few runs, and a few have the largest
+sizes.
 Exit status: 0, or 1 where coverage misses something, or 2 after an error.
 ";
 
@@ -60,23 +67,26 @@ fn command(arguments: &[OsString]) -> Answer {
         return Err("no command; second --help lists them".into());
     };
     match (name.to_str().unwrap_or_default(), rest) {
-        ("reading", []) => print(&second::desk(&read_image(io::stdin(), "standard input")?)),
-        ("reading", [file]) => print(&second::desk(&read_image(open(file)?, &name_of(file))?)),
+        ("reading", _) => reading(rest),
         ("map", [file]) => print_map(&read_image(open(file)?, &name_of(file))?),
         ("coverage", _) => coverage(rest),
         ("cases", _) => write_cases(rest),
         ("expect", [file]) => expect(file),
         ("speed", []) => speed(),
         ("--help" | "-h" | "help", []) => print(HELP),
-        ("reading" | "map" | "expect" | "speed" | "--help" | "-h" | "help", _) => Err(format!(
-            "wrong number of arguments to {}; second --help lists them",
-            name_of(name)
-        )),
+        ("map" | "expect" | "speed" | "--help" | "-h" | "help", _) => wrong_number(name),
         _ => Err(format!(
             "no command {}; second --help lists them",
             name_of(name)
         )),
     }
+}
+
+fn wrong_number(name: &OsStr) -> Answer {
+    let name = name_of(name);
+    Err(format!(
+        "wrong number of arguments to {name}; second --help lists them"
+    ))
 }
 
 fn name_of(argument: &OsStr) -> String {
@@ -105,6 +115,38 @@ fn read_all(from: impl Read, name: &str, most: u64) -> Result<Vec<u8>, String> {
 /// An image, or as much of one as shows that it is too long.
 fn read_image(from: impl Read, name: &str) -> Result<Vec<u8>, String> {
     read_all(from, name, 65_536)
+}
+
+/// The desk's reading of the image that is named, or of standard input.
+fn reading(arguments: &[OsString]) -> Answer {
+    let (mut requests, mut after) = (0, 0);
+    let mut files = arguments;
+    while let [option, rest @ ..] = files {
+        match option.to_str() {
+            Some("--requests") => requests = limited("--requests", rest.first(), u16::MAX)?,
+            Some("--after") => after = limited("--after", rest.first(), u32::MAX)?,
+            _ => break,
+        }
+        files = &rest[1..];
+    }
+    let image = match files {
+        [] => read_image(io::stdin(), "standard input")?,
+        [file] => read_image(open(file)?, &name_of(file))?,
+        _ => return wrong_number("reading".as_ref()),
+    };
+    print(&second::desk_with(&image, requests, after))
+}
+
+/// The value of an option: digits alone, of a number up to the type's last.
+fn limited<T: FromStr + Display>(
+    option: &str,
+    value: Option<&OsString>,
+    last: T,
+) -> Result<T, String> {
+    let digits = |value: &&str| value.bytes().all(|byte| byte.is_ascii_digit());
+    let value = value.and_then(|value| value.to_str()).filter(digits);
+    let value = value.and_then(|value| value.parse().ok());
+    value.ok_or_else(|| format!("{option} needs a decimal number of 0 to {last}"))
 }
 
 fn print_map(image: &[u8]) -> Answer {
@@ -281,7 +323,14 @@ fn time_run(modules: &[Source], n: u32) -> (f64, f64) {
     let (_, machine) = second::start(&image, &mut store);
     let mut outputs = [0; 16];
     let run_time = least_time(|| {
-        let answer = second::run(machine, &image, &map, &mut store, &mut outputs, &[0; 16], n);
+        let buffers = Buffers {
+            image: &image,
+            map: &map,
+            store: &mut store,
+            outputs: &mut outputs,
+            inputs: &[0; 16],
+        };
+        let answer = second::run(machine, buffers, 0, n);
         assert_eq!(answer.count, n);
     });
     (load_time, run_time)

@@ -2,7 +2,7 @@
 //! refuses, and landings.
 
 use crate::case::{each_run, Case, Outcome};
-use crate::coverage::{named, Line};
+use crate::coverage::{named, Reached};
 use crate::depths::{entry_marks, position_fits};
 use crate::image::{parse, Procedure, Program};
 use crate::machine::Machine;
@@ -44,7 +44,7 @@ impl Results {
         self.add_load(&program, &case.image, outcome);
         each_run(case, outcome, |_, run, map| {
             let (from, to) = (&run.handed, &run.answer.machine);
-            if run.answer.count == 1 && from.opcode(&program, &case.image) == RTN {
+            if run.is_instruction() && from.opcode(&program, &case.image) == RTN {
                 let results = |machine: &Machine| {
                     let mark = machine.mark(&program, map);
                     mark.map(|mark| mark.results)
@@ -73,7 +73,7 @@ impl Results {
     }
 
     /// The lines of the report: what was reached, its kinds and their counts.
-    pub fn lines(&self) -> Vec<Line> {
+    pub fn reached(&self) -> Vec<Reached> {
         vec![
             (
                 "marks of accepted images with results",

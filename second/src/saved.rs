@@ -2,7 +2,7 @@
 //! at positions with saved depths, and images that A.5 alone refuses.
 
 use crate::case::{each_run, Case, CaseRun, Outcome, RunOutcome};
-use crate::coverage::{named, Line};
+use crate::coverage::{named, Reached};
 use crate::depths::{entry_marks, first_marks};
 use crate::image::{parse, Program};
 use crate::lent::{only_rule, Rule};
@@ -127,7 +127,7 @@ impl Expressions {
                     let known = (count == 0).then_some(run);
                     self.add_stop(&at(&made.answer.machine), made, known);
                 }
-                (SPENT.., 1) => {
+                (SPENT.., 1) if made.taken() == 0 => {
                     let [from, to] = [&made.handed, &made.answer.machine].map(at);
                     self.add_step(&from, &to, made, &mut frames);
                 }
@@ -234,7 +234,7 @@ impl Expressions {
     }
 
     /// The lines of the report: what was reached, its kinds and their counts.
-    pub fn lines(&self) -> Vec<Line> {
+    pub fn reached(&self) -> Vec<Reached> {
         let numbers: Vec<usize> = (0..16).collect();
         let calls = CALLS.map(|opcode| row(opcode).mnemonic);
         vec![

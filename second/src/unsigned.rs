@@ -2,7 +2,7 @@
 //! of 0 to 65,535, inside and outside, and sums that still go round.
 
 use crate::case::{Case, Outcome};
-use crate::coverage::{named, Line};
+use crate::coverage::{named, Reached};
 use crate::exec::double;
 use crate::image::{parse, Program};
 use crate::machine::Machine;
@@ -106,7 +106,7 @@ impl Unsigned {
         for run in &outcome.runs {
             let stopped = match (run.answer.number, run.answer.count) {
                 (RESULT_RANGE, 0) => true,
-                (_, 1) => false,
+                _ if run.is_instruction() => false,
                 _ => continue,
             };
             let opcode = run.handed.opcode(&program, &case.image);
@@ -139,7 +139,7 @@ impl Unsigned {
     }
 
     /// The lines of the report: what was reached, its kinds and their counts.
-    pub fn lines(&self) -> Vec<Line> {
+    pub fn reached(&self) -> Vec<Reached> {
         let mut lines = Vec::new();
         let kinds = |results: &[Interval; 3], counts: &[u64; 3]| {
             let names = results.each_ref().map(name);

@@ -2,7 +2,7 @@
 //! place of 13 between 7 and 8.
 
 use crate::case::{Case, Outcome};
-use crate::coverage::{named, Line};
+use crate::coverage::{named, Reached};
 use crate::depths::{entry_marks, first_marks, has_depths};
 use crate::image::{parse, Program};
 use crate::mark::UNMARKED;
@@ -139,7 +139,7 @@ impl Whole {
     }
 
     /// The lines of the report: what was reached, its kinds and their counts.
-    pub fn lines(&self) -> Vec<Line> {
+    pub fn reached(&self) -> Vec<Reached> {
         let causes = Cause::ALL.map(|cause| cause.to_string());
         let places = PLACES.map(|(name, _)| name);
         let mut lines = vec![("images refused with 13 for", named(&causes, &self.causes))];

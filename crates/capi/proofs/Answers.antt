@@ -10,7 +10,7 @@ use borrow.Author.Tests.{leb-true, leb-false, le-ltb, le-leb, ltb-true}
 use Rattle.mcode.specs.Word.{pick, and}
 use Rattle.mcode.specs.Image.{parse}
 use Rattle.mcode.specs.Depths.{mapFits}
-use Rattle.mcode.specs.Machine.{State, state, machine, zeroMachine, isMachine}
+use Rattle.mcode.specs.Machine.{State, Live, state, live, machine, zeroMachine, isMachine}
 use Rattle.mcode.specs.Step.{stepOf}
 use Rattle.mcode.specs.Run.{Started, RunLeft, refused, stopped, storeFits, lentTo, runN, runRefusal, runOf, startRefusal, startMachine, startStore, startOf}
 use Rattle.mcode.specs.declared.Ending.{Ending}
@@ -43,26 +43,26 @@ abbrev is-refused : Ending → Bool
 is-refused (Refused k) = true
 is-refused (Stopped k) = false
 
-pub stop-depth : (image map inputs : List ℕ) (n : ℕ) (x : State) (r : RunLeft) (k : Stop) → r ≡ runOf image map inputs n x → r .ending ≡ Stopped k → r .state .machine .registers .depth ≤ 16
+pub stop-depth : (image map inputs : List ℕ) (n : ℕ) (x : Live) (r : RunLeft) (k : Stop) → r ≡ runOf image map inputs n x → r .ending ≡ Stopped k → r .state .state .machine .registers .depth ≤ 16
 unfolding runOf
-stop-depth image map inputs n x r k e = subst (λ (y : RunLeft). y .ending ≡ Stopped k → y .state .machine .registers .depth ≤ 16) (sym e) (go (leb 1 (runRefusal image map inputs x)) refl)
+stop-depth image map inputs n x r k e = subst (λ (y : RunLeft). y .ending ≡ Stopped k → y .state .state .machine .registers .depth ≤ 16) (sym e) (go (leb 1 (runRefusal image map inputs (x .state))) refl)
   where
     no : RunLeft
-    no = refused (runRefusal image map inputs x) x
+    no = refused (runRefusal image map inputs (x .state)) x
 
     yes : RunLeft
     yes = stopped (runN (stepOf (lentTo image map inputs)) n x)
 
-    go : (t : Bool) → leb 1 (runRefusal image map inputs x) ≡ t → pick t no yes .ending ≡ Stopped k → pick t no yes .state .machine .registers .depth ≤ 16
+    go : (t : Bool) → leb 1 (runRefusal image map inputs (x .state)) ≡ t → pick t no yes .ending ≡ Stopped k → pick t no yes .state .state .machine .registers .depth ≤ 16
     go true f z = absurd (false≢true (sym (ap is-refused z)))
     go false f z =
-        let (L, h, i) = accepted image map inputs x f in
-        let g = good-of (parse image .program) map (length (x .store)) (x .machine) (h .machine) in
-        points image map (L .fit) inputs (length (x .store)) n x (record { good = g; sized = refl; outs = h .outs }) .1 .good .at .few
+        let (L, h, i) = accepted image map inputs (x .state) f in
+        let g = good-of (parse image .program) map (length (x .state .store)) (x .state .machine) (h .machine) in
+        points image map (L .fit) inputs (length (x .state .store)) n x (record { good = g; sized = refl; outs = h .outs }) .1 .good .at .few
 
 -- ---- modules that no image has
 
-module _ (image map inputs : List ℕ) (n : ℕ) (words store outputs : List ℕ) where
+module _ (image map inputs : List ℕ) (n w : ℕ) (words store outputs : List ℕ) where
   -- the words' machine, in module k
   abbrev in-module : ℕ → State
   in-module k = state (machine (registersIn k words) (drop 8 words)) store outputs
@@ -106,19 +106,19 @@ module _ (image map inputs : List ℕ) (n : ℕ) (words store outputs : List ℕ
       go true e = rw e refl
       go false e = rw (no-machine k l e) refl
 
-  far : (k : ℕ) → 32 ≤ k → runOf image map inputs n (in-module k) ≡ refused number (in-module k)
+  far : (k : ℕ) → 32 ≤ k → runOf image map inputs n (live (in-module k) w) ≡ refused number (live (in-module k) w)
   unfolding runOf
   far k l = rw (refusal-is k l, le-leb 1 number some) refl
 
   -- a run of the code's machine answers as a run of the words' machine
-  same : runSays words (runOf image map inputs n (in-module (moduleNumber (getD words 0 0)))) ≡ runSays words (runOf image map inputs n (in-module (getD words 0 0)))
+  same : runSays words (runOf image map inputs n (live (in-module (moduleNumber (getD words 0 0))) w)) ≡ runSays words (runOf image map inputs n (live (in-module (getD words 0 0)) w))
   same = go (ltb 255 (getD words 0 0)) refl
     where
       go : (t : Bool) → ltb 255 (getD words 0 0) ≡ t
-          → runSays words (runOf image map inputs n (in-module (pick t 255 (getD words 0 0)))) ≡ runSays words (runOf image map inputs n (in-module (getD words 0 0)))
+          → runSays words (runOf image map inputs n (live (in-module (pick t 255 (getD words 0 0))) w)) ≡ runSays words (runOf image map inputs n (live (in-module (getD words 0 0)) w))
       go true e = ap (runSays words) (far 255 (omega arith)) ∙ sym (ap (runSays words) (far (getD words 0 0) (omega (arith, ltb-true 255 (getD words 0 0) e))))
       go false e = refl
 
-  pub run-says : (r : RunLeft) (e : Ending) → r ≡ runOf image map inputs n (state (machineFrom words) store outputs) → r .ending ≡ e
-      → runSays words (record { ending = e; count = r .count; state = r .state }) ≡ runSays words (runOf image map inputs n (state (machineOf words) store outputs))
+  pub run-says : (r : RunLeft) (e : Ending) → r ≡ runOf image map inputs n (live (state (machineFrom words) store outputs) w) → r .ending ≡ e
+      → runSays words (record { ending = e; count = r .count; state = r .state }) ≡ runSays words (runOf image map inputs n (live (state (machineOf words) store outputs) w))
   run-says r e q z = sym (ap (λ (d : Ending). runSays words (record { ending = d; count = r .count; state = r .state })) z) ∙ ap (runSays words) q ∙ same

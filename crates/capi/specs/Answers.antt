@@ -5,7 +5,7 @@ use mathlib.Core.List.{List, [], _∷_}
 use lib.ListN.{length}
 use lib.Dec.{eqb}
 use Rattle.mcode.specs.Word.{pick, and}
-use Rattle.mcode.specs.Machine.{state}
+use Rattle.mcode.specs.Machine.{state, live}
 use Rattle.mcode.specs.Run.{Started, RunLeft, Loads, startOf, runOf, endingNumber, endingCode}
 use Rattle.mcode.specs.declared.Machine.{Machine}
 use Rattle.mcode.specs.declared.Verdict.{Verdict}
@@ -13,7 +13,7 @@ use Rattle.mcode.specs.declared.Ending.{Ending}
 use Rattle.mcode.specs.declared.Ending.the-variants.{Refused, Stopped}
 use Rattle.capi.specs.Words.{wordsOf, machineOf}
 
--- the answer to a place that is not 2 words, a machine that is not 24 words, or an answer that is not 2 numbers: nothing is changed
+-- the answer to a place that is not 2 words, a machine that is not 24 words, or an answer that is not 3 numbers: nothing is changed
 abbrev pub wrongLength : ℕ
 wrongLength = 20
 
@@ -63,13 +63,13 @@ abbrev pub wordsLeft : Ending → List ℕ → Machine → List ℕ
 wordsLeft (Refused k) words m = words
 wordsLeft (Stopped k) words m = wordsOf m
 
--- the number, the words, and the count and the code of what a run answers and leaves
+-- the number, the words, and the count, the code and the requests left of what a run answers and leaves
 abbrev pub runSays : List ℕ → RunLeft → RunAnswer
 runSays words e =
-    runLeft (endingNumber (e .ending)) (wordsLeft (e .ending) words (e .state .machine)) (e .state .store) (e .state .outputs) (e .count ∷ endingCode (e .ending) ∷ [])
+    runLeft (endingNumber (e .ending)) (wordsLeft (e .ending) words (e .state .state .machine)) (e .state .state .store) (e .state .state .outputs) (e .count ∷ endingCode (e .ending) ∷ e .state .requests ∷ [])
 
-unfoldable pub runWords : List ℕ → List ℕ → List ℕ → ℕ → List ℕ → List ℕ → List ℕ → List ℕ → RunAnswer
-runWords image map inputs n machine store outputs answer =
-    pick (and (eqb (length machine) 24) (eqb (length answer) 2))
-    (runSays machine (runOf image map inputs n (state (machineOf machine) store outputs)))
+unfoldable pub runWords : List ℕ → List ℕ → List ℕ → ℕ → ℕ → List ℕ → List ℕ → List ℕ → List ℕ → RunAnswer
+runWords image map inputs n requests machine store outputs answer =
+    pick (and (eqb (length machine) 24) (eqb (length answer) 3))
+    (runSays machine (runOf image map inputs n (live (state (machineOf machine) store outputs) requests)))
     (runLeft wrongLength machine store outputs answer)

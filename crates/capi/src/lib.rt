@@ -40,8 +40,9 @@ pub extern "C" fn cembuxola_start(image: &[u8], store: &mut [u16], machine: &mut
     started.number
 }
 
-// The number of the refusal, 1 to 7 or 9 to 12, or of the stop, 30 to 40; the count and the code in answer. The machine's words
-// stay as they were where run refuses. 20 where the machine is not 24 words or the answer not 2 numbers, and then nothing is changed.
+// The number of the refusal, 1 to 7 or 9 to 12, or of the stop, 30 to 40; the count, the code and what is left of the requests in answer.
+// The machine's words stay as they were where run refuses, and the requests. 20 where the machine is not 24 words or the answer not 3
+// numbers, and then nothing is changed.
 #[no_mangle]
 pub extern "C" fn cembuxola_run(
     machine: &mut [u16],
@@ -52,27 +53,28 @@ pub extern "C" fn cembuxola_run(
     inputs: &[u16],
     answer: &mut [u32],
     n: u32,
+    requests: u16,
 ) -> u16
-    ensures { λ r. ⌜ runLeft r (now (machine .exit)) (now (store .exit)) (now (outputs .exit)) (now (answer .exit)) ≡ runWords (now (image .entry)) (now (map .entry)) (now (inputs .entry)) n (now (machine .entry)) (now (store .entry)) (now (outputs .entry)) (now (answer .entry)) ⌝ }
+    ensures { λ r. ⌜ runLeft r (now (machine .exit)) (now (store .exit)) (now (outputs .exit)) (now (answer .exit)) ≡ runWords (now (image .entry)) (now (map .entry)) (now (inputs .entry)) n requests (now (machine .entry)) (now (store .entry)) (now (outputs .entry)) (now (answer .entry)) ⌝ }
 {
     if machine.len() != 24 {
         return 20;
     }
-    if answer.len() != 2 {
+    if answer.len() != 3 {
         return 20;
     }
     let before = unpack(machine);
-    let ran = engine::run::run(before, image, map, store, outputs, inputs, n);
+    let ran = engine::run::run(before, image, map, store, outputs, inputs, n, requests);
     let ending = ran.ending;
     match ending {
         Ending::Refused(number) => {
-            put_answer(answer, ran.count, 0);
+            put_answer(answer, ran.count, 0, ran.requests);
             number
         }
         Ending::Stopped(stop) => {
             let after = ran.machine;
             pack(machine, after);
-            put_answer(answer, ran.count, mcode::stop_code(stop));
+            put_answer(answer, ran.count, mcode::stop_code(stop), ran.requests);
             mcode::stop_number(stop)
         }
     }

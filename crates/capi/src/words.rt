@@ -102,10 +102,11 @@ pub fn pack(words: &mut [u16], machine: Machine)
 }
 
 // The count and the code.
-pub fn put_answer(answer: &mut [u32], count: u32, code: u16)
-    requires { ⌜ length (now answer) ≡ 2 ⌝ }
-    ensures { λ _. ⌜ now (answer .exit) ≡ count ∷ code ∷ [] ⌝ }
+pub fn put_answer(answer: &mut [u32], count: u32, code: u16, requests: u16)
+    requires { ⌜ length (now answer) ≡ 3 ⌝ }
+    ensures { λ _. ⌜ now (answer .exit) ≡ count ∷ code ∷ requests ∷ [] ⌝ }
 {
     answer[0] = count;
     answer[1] = code as u32;
+    answer[2] = requests as u32;
 }

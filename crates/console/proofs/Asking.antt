@@ -13,7 +13,7 @@ use Rattle.console.specs.Asks.{valueBy, valueSays}
 
 -- an input sets its own channel
 pub input-set : (o : Options) (choice : Choice) (inputs : List ℕ) (c v : ℕ) → choice ≡ Input c v → inputs ≡ set (o .inputs) c v
-    → _≡_ {A = Options} (record { steps = o .steps; store = o .store; inputs = inputs }) (withChoice o choice)
+    → _≡_ {A = Options} (record { steps = o .steps; store = o .store; inputs = inputs; requests = o .requests; after = o .after }) (withChoice o choice)
 input-set o choice inputs c v e h = rw (e, h) refl
 
 -- by the option that awaits a value

@@ -10,9 +10,9 @@ use Rattle.console.specs.declared.options.Argument.the-variants as Named
 use Rattle.console.specs.declared.options.Choice.{Choice}
 use Rattle.console.specs.declared.options.Choice.the-variants as Chosen
 use Rattle.console.specs.declared.arguments.Awaited.{Awaited}
-use Rattle.console.specs.declared.arguments.Awaited.the-variants.{Nothing, Steps, Store, Input}
+use Rattle.console.specs.declared.arguments.Awaited.the-variants.{Nothing, Steps, Store, Input, Requests, Line, After}
 use Rattle.console.specs.declared.arguments.Asked.{Asked}
-use Rattle.console.specs.Choices.{defaultOptions, kindOf, hasValue, valueOf, stepsOf, storeOf, inputOf, withChoice}
+use Rattle.console.specs.Choices.{defaultOptions, kindOf, hasValue, valueOf, stepsOf, storeOf, inputOf, requestsOf, lineChoice, afterOf, withChoice}
 
 abbrev pub goesOn : Options → ℕ → Awaited → Asked
 goesOn options files awaited = record { options = options; files = files; awaited = awaited; help = false; bad = false }
@@ -34,6 +34,9 @@ kindSays a Named.Help = endsWith a true
 kindSays a Named.Steps = goesOn (a .options) (a .files) Steps
 kindSays a Named.Store = goesOn (a .options) (a .files) Store
 kindSays a Named.Input = goesOn (a .options) (a .files) Input
+kindSays a Named.Requests = goesOn (a .options) (a .files) Requests
+kindSays a Named.Line = goesOn (a .options) (a .files) Line
+kindSays a Named.After = goesOn (a .options) (a .files) After
 kindSays a Named.Unknown = endsWith a false
 kindSays a Named.File = goesOn (a .options) (oneMore (a .files)) Nothing
 
@@ -44,6 +47,9 @@ abbrev pub isBad : Choice → Bool
 isBad (Chosen.Steps n) = false
 isBad (Chosen.Store w) = false
 isBad (Chosen.Input c v) = false
+isBad (Chosen.Requests w) = false
+isBad (Chosen.Line i) = false
+isBad (Chosen.After n) = false
 isBad Chosen.Bad = true
 
 -- the value of an option: the options with that choice
@@ -55,6 +61,9 @@ valueBy Nothing a text = a
 valueBy Steps a text = withValue a (stepsOf text)
 valueBy Store a text = withValue a (storeOf text)
 valueBy Input a text = withValue a (inputOf text)
+valueBy Requests a text = withValue a (requestsOf text)
+valueBy Line a text = withValue a (lineChoice text)
+valueBy After a text = withValue a (afterOf text)
 
 -- the value of the option that awaits one
 unfoldable pub valueSays : Asked → List ℕ → Asked
@@ -69,6 +78,9 @@ awaitsBy Nothing = false
 awaitsBy Steps = true
 awaitsBy Store = true
 awaitsBy Input = true
+awaitsBy Requests = true
+awaitsBy Line = true
+awaitsBy After = true
 
 -- whether an option awaits its value
 unfoldable pub awaits : Asked → Bool
@@ -83,6 +95,9 @@ wholeBy Nothing a = a
 wholeBy Steps a = endsWith a false
 wholeBy Store a = endsWith a false
 wholeBy Input a = endsWith a false
+wholeBy Requests a = endsWith a false
+wholeBy Line a = endsWith a false
+wholeBy After a = endsWith a false
 
 -- after the last argument no option may still await its value
 unfoldable pub wholeOf : Asked → Asked

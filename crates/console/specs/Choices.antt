@@ -1,7 +1,8 @@
 -- What the arguments of a reading ask. Assumes nothing.
-use Prim.Native.Nat.{ℕ, _+_}
+use Prim.Native.Nat.{ℕ, _+_, _^_}
 use mathlib.Core.Bool.{Bool, true, false}
 use mathlib.Core.List.{List, [], _∷_}
+use lib.Bits.{bitOr}
 use lib.Dec.{eqb, leb, ltb}
 use lib.ListN.{length, getD, take, drop, set, replicate}
 use Rattle.mcode.specs.Word.{pick, and}
@@ -10,13 +11,13 @@ use Rattle.console.specs.declared.number.Number.{Number}
 use Rattle.console.specs.declared.number.Number.the-variants.{Is, Bad}
 use Rattle.console.specs.declared.options.Options.{Options}
 use Rattle.console.specs.declared.options.Argument.{Argument}
-use Rattle.console.specs.declared.options.Argument.the-variants.{Help, Steps as StepsNamed, Store as StoreNamed, Input as InputNamed, Unknown, File}
+use Rattle.console.specs.declared.options.Argument.the-variants.{Help, Steps as StepsNamed, Store as StoreNamed, Input as InputNamed, Requests as RequestsNamed, Line as LineNamed, After as AfterNamed, Unknown, File}
 use Rattle.console.specs.declared.options.Choice.{Choice}
-use Rattle.console.specs.declared.options.Choice.the-variants.{Steps, Store, Input, Bad as BadChoice}
+use Rattle.console.specs.declared.options.Choice.the-variants.{Steps, Store, Input, Requests, Line, After, Bad as BadChoice}
 
--- "W = 4,096, inputs 0, outputs first 0, n = 1,000"
+-- "W = 4,096, inputs 0, outputs first 0, n = 1,000"; of the requests "The desk program gives 0"
 abbrev pub defaultOptions : Options
-defaultOptions = record { steps = 1000; store = 4096; inputs = replicate 16 0 }
+defaultOptions = record { steps = 1000; store = 4096; inputs = replicate 16 0; requests = 0; after = 0 }
 
 -- two texts are the same
 unfoldable pub sameText : List ℕ → List ℕ → Bool
@@ -25,7 +26,7 @@ sameText [] (b ∷ t) = false
 sameText (a ∷ s) [] = false
 sameText (a ∷ s) (b ∷ t) = and (eqb a b) (sameText s t)
 
--- `--help`, `-h`, `--steps`, `--store`, `--input` in ASCII
+-- `--help`, `-h`, `--steps`, `--store`, `--input`, `--requests`, `--line`, `--after` in ASCII
 abbrev pub helpText : List ℕ
 helpText = 45 ∷ 45 ∷ 104 ∷ 101 ∷ 108 ∷ 112 ∷ []
 
@@ -40,6 +41,15 @@ storeText = 45 ∷ 45 ∷ 115 ∷ 116 ∷ 111 ∷ 114 ∷ 101 ∷ []
 
 abbrev pub inputText : List ℕ
 inputText = 45 ∷ 45 ∷ 105 ∷ 110 ∷ 112 ∷ 117 ∷ 116 ∷ []
+
+abbrev pub requestsText : List ℕ
+requestsText = 45 ∷ 45 ∷ 114 ∷ 101 ∷ 113 ∷ 117 ∷ 101 ∷ 115 ∷ 116 ∷ 115 ∷ []
+
+abbrev pub lineText : List ℕ
+lineText = 45 ∷ 45 ∷ 108 ∷ 105 ∷ 110 ∷ 101 ∷ []
+
+abbrev pub afterText : List ℕ
+afterText = 45 ∷ 45 ∷ 97 ∷ 102 ∷ 116 ∷ 101 ∷ 114 ∷ []
 
 -- where the first b stands in a text; its length where there is none
 unfoldable pub placeOf : ℕ → List ℕ → ℕ
@@ -66,8 +76,11 @@ kindOf text =
     (pick (sameText (nameOf text) stepsText) StepsNamed
     (pick (sameText (nameOf text) storeText) StoreNamed
     (pick (sameText (nameOf text) inputText) InputNamed
+    (pick (sameText (nameOf text) requestsText) RequestsNamed
+    (pick (sameText (nameOf text) lineText) LineNamed
+    (pick (sameText (nameOf text) afterText) AfterNamed
     (pick (ltb (length text) 2) File
-    (pick (eqb (getD text 0 0) 45) Unknown File))))))
+    (pick (eqb (getD text 0 0) 45) Unknown File)))))))))
 
 abbrev pub stepsFrom : Number → Choice
 stepsFrom (Is n) = Steps n
@@ -95,9 +108,45 @@ inputFrom channel value = wired (numberOf channel) (numberOf value)
 unfoldable pub inputOf : List ℕ → Choice
 inputOf text = pick (hasValue text) (inputFrom (nameOf text) (valueOf text)) BadChoice
 
--- the field that a choice sets, to what it says; a later one wins
+abbrev pub requestsFrom : Number → Choice
+requestsFrom (Is n) = pick (leb n 65535) (Requests n) BadChoice
+requestsFrom Bad = BadChoice
+
+unfoldable pub requestsOf : List ℕ → Choice
+requestsOf text = requestsFrom (numberOf text)
+
+abbrev pub lineFrom : Number → Choice
+lineFrom (Is n) = pick (and (leb 8 n) (leb n 15)) (Line n) BadChoice
+lineFrom Bad = BadChoice
+
+unfoldable pub lineChoice : List ℕ → Choice
+lineChoice text = lineFrom (numberOf text)
+
+abbrev pub afterFrom : Number → Choice
+afterFrom (Is n) = After n
+afterFrom Bad = BadChoice
+
+unfoldable pub afterOf : List ℕ → Choice
+afterOf text = afterFrom (numberOf text)
+
+-- line i stands in bit i of the word of requests, which has 16
+abbrev pub lineWeight : ℕ → ℕ
+lineWeight i = pick (ltb i 16) (2 ^ i) 0
+
+-- the bits of a word, united with the requests so far
+abbrev pub withRequests : Options → ℕ → Options
+withRequests o w = record { steps = o .steps; store = o .store; inputs = o .inputs; requests = bitOr (o .requests) w; after = o .after }
+
+-- the field that a choice sets, to what it says; a later one wins. Requests and lines are united.
 abbrev pub withChoice : Options → Choice → Options
-withChoice o (Steps n) = record { steps = n; store = o .store; inputs = o .inputs }
-withChoice o (Store w) = record { steps = o .steps; store = w; inputs = o .inputs }
-withChoice o (Input c v) = record { steps = o .steps; store = o .store; inputs = set (o .inputs) c v }
+withChoice o (Steps n) = record { steps = n; store = o .store; inputs = o .inputs; requests = o .requests; after = o .after }
+withChoice o (Store w) = record { steps = o .steps; store = w; inputs = o .inputs; requests = o .requests; after = o .after }
+withChoice o (Input c v) = record { steps = o .steps; store = o .store; inputs = set (o .inputs) c v; requests = o .requests; after = o .after }
+withChoice o (Requests w) = withRequests o w
+withChoice o (Line i) = withRequests o (lineWeight i)
+withChoice o (After n) = record { steps = o .steps; store = o .store; inputs = o .inputs; requests = o .requests; after = n }
 withChoice o BadChoice = o
+
+-- the requests come after so many steps: all of them where there are none
+unfoldable pub quietSteps : Options → ℕ
+quietSteps o = pick (eqb (o .requests) 0) (o .steps) (pick (ltb (o .steps) (o .after)) (o .steps) (o .after))

@@ -15,6 +15,9 @@ pub enum Awaited {
     Steps,
     Store,
     Input,
+    Requests,
+    Line,
+    After,
 }
 
 // The options so far, and how many files are named: 0, 1, or 2 for several. Whether help is asked, and whether an argument was bad:
@@ -81,6 +84,9 @@ fn with_name(program: &[u8], asked: Asked, text: &[u8]) -> Asked
         Argument::Steps => going_on(options, files, Awaited::Steps),
         Argument::Store => going_on(options, files, Awaited::Store),
         Argument::Input => going_on(options, files, Awaited::Input),
+        Argument::Requests => going_on(options, files, Awaited::Requests),
+        Argument::Line => going_on(options, files, Awaited::Line),
+        Argument::After => going_on(options, files, Awaited::After),
         Argument::Unknown => {
             print::complaint(program, text, b"no such option (--help lists them)");
             ended(asked, false)
@@ -96,6 +102,9 @@ fn is_bad(choice: Choice) -> bool
         Choice::Steps(_) => false,
         Choice::Store(_) => false,
         Choice::Input(_, _) => false,
+        Choice::Requests(_) => false,
+        Choice::Line(_) => false,
+        Choice::After(_) => false,
         Choice::Bad => true,
     }
 }
@@ -141,6 +150,27 @@ fn with_awaited(program: &[u8], asked: Asked, text: &[u8]) -> Asked
             options::input(text),
             b"--input takes CH=VALUE, a channel from 0 to 15 and a value from 0 to 65535",
         ),
+        Awaited::Requests => with_value(
+            program,
+            asked,
+            text,
+            options::requests(text),
+            b"--requests takes a number from 0 to 65535",
+        ),
+        Awaited::Line => with_value(
+            program,
+            asked,
+            text,
+            options::line(text),
+            b"--line takes a line from 8 to 15",
+        ),
+        Awaited::After => with_value(
+            program,
+            asked,
+            text,
+            options::after(text),
+            b"--after takes a number from 0 to 4294967295",
+        ),
     }
 }
 
@@ -165,6 +195,9 @@ pub fn awaits_value(asked: Asked) -> bool
         Awaited::Steps => true,
         Awaited::Store => true,
         Awaited::Input => true,
+        Awaited::Requests => true,
+        Awaited::Line => true,
+        Awaited::After => true,
     }
 }
 
@@ -202,6 +235,26 @@ pub fn whole(program: &[u8], asked: Asked) -> Asked
                 program,
                 b"--input",
                 b"CH=VALUE must follow (channel 0 to 15, value 0 to 65535)",
+            );
+            ended(asked, false)
+        }
+        Awaited::Requests => {
+            print::complaint(
+                program,
+                b"--requests",
+                b"a number from 0 to 65535 must follow",
+            );
+            ended(asked, false)
+        }
+        Awaited::Line => {
+            print::complaint(program, b"--line", b"a line from 8 to 15 must follow");
+            ended(asked, false)
+        }
+        Awaited::After => {
+            print::complaint(
+                program,
+                b"--after",
+                b"a number from 0 to 4294967295 must follow",
             );
             ended(asked, false)
         }

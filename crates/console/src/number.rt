@@ -1,5 +1,8 @@
 // Decimal numbers as text.
 ghost use mathlib.Core.Path.{_≡_};
+ghost use Prim.Native.Nat.{_+_, _-_};
+ghost use lib.Dec.{ltb};
+ghost use Rattle.mcode.specs.Word.{pick};
 ghost use Rattle.console.specs.Decimals.{numberOf};
 
 // What a text says: a number, or none.
@@ -33,4 +36,14 @@ pub fn decimal(text: &[u8]) -> Number
         i += 1;
     }
     Number::Is(value as u32)
+}
+
+// The sum, at most 4,294,967,295.
+pub fn sum(a: u32, b: u32) -> u32
+    ensures { λ r. ⌜ r ≡ pick (ltb (4294967295 - a) b) 4294967295 (a + b) ⌝ }
+{
+    if u32::MAX - a < b {
+        return u32::MAX;
+    }
+    a + b
 }

@@ -1,18 +1,22 @@
-// What the arguments ask: the budget, the store's size and the inputs of a reading.
+// What the arguments ask: the budget, the store's size, the inputs and the requests of a reading.
 use crate::number::Number;
 use crate::number::decimal;
+use mcode::Ending;
+use mcode::Stop;
 ghost use mathlib.Core.Path.{_≡_};
 ghost use lib.ListN.{length, set};
 ghost use Prim.Native.Nat.{_≤_};
-ghost use Rattle.console.specs.Choices.{defaultOptions, sameText, kindOf, stepsOf, storeOf, placeOf, nameOf, hasValue, valueOf, inputFrom, inputOf, withChoice};
+ghost use Rattle.console.specs.Choices.{defaultOptions, sameText, kindOf, stepsOf, storeOf, placeOf, nameOf, hasValue, valueOf, inputFrom, inputOf, requestsOf, lineChoice, afterOf, lineWeight, withRequests, withChoice, quietSteps};
 
 pub struct Options {
     pub steps: u32,
     pub store: usize,
     pub inputs: [u16; 16],
+    pub requests: u16,
+    pub after: u32,
 }
 
-// The reading of the paper: n = 1,000, W = 4,096, inputs 0.
+// The reading of the paper: n = 1,000, W = 4,096, inputs 0, no requests; those that there are come at once.
 pub fn defaults() -> Options
     ensures { λ r. ⌜ r ≡ defaultOptions ⌝ }
 {
@@ -21,6 +25,8 @@ pub fn defaults() -> Options
         steps: 1000,
         store: 4096,
         inputs,
+        requests: 0,
+        after: 0,
     }
 }
 
@@ -30,6 +36,9 @@ pub enum Argument {
     Steps,
     Store,
     Input,
+    Requests,
+    Line,
+    After,
     Unknown,
     File,
 }
@@ -106,6 +115,15 @@ pub fn kind(text: &[u8]) -> Argument
     if same(option, b"--input") {
         return Argument::Input;
     }
+    if same(option, b"--requests") {
+        return Argument::Requests;
+    }
+    if same(option, b"--line") {
+        return Argument::Line;
+    }
+    if same(option, b"--after") {
+        return Argument::After;
+    }
     if text.len() < 2 {
         return Argument::File;
     }
@@ -120,6 +138,9 @@ pub enum Choice {
     Steps(u32),
     Store(usize),
     Input(u8, u16),
+    Requests(u16),
+    Line(u8),
+    After(u32),
     Bad,
 }
 
@@ -179,6 +200,49 @@ pub fn input(text: &[u8]) -> Choice
     Choice::Bad
 }
 
+// --requests WORD, 0 to 65,535.
+pub fn requests(text: &[u8]) -> Choice
+    ensures { λ r. ⌜ r ≡ requestsOf (now (text .entry)) ⌝ }
+{
+    match decimal(text) {
+        Number::Is(n) => {
+            if n <= 65535 {
+                return Choice::Requests(n as u16);
+            }
+            Choice::Bad
+        }
+        Number::Bad => Choice::Bad,
+    }
+}
+
+// --line I, 8 to 15.
+pub fn line(text: &[u8]) -> Choice
+    ensures { λ r. ⌜ r ≡ lineChoice (now (text .entry)) ⌝ }
+{
+    match decimal(text) {
+        Number::Is(n) => {
+            if n < 8 {
+                return Choice::Bad;
+            }
+            if 15 < n {
+                return Choice::Bad;
+            }
+            Choice::Line(n as u8)
+        }
+        Number::Bad => Choice::Bad,
+    }
+}
+
+// --after N, 0 to 4,294,967,295.
+pub fn after(text: &[u8]) -> Choice
+    ensures { λ r. ⌜ r ≡ afterOf (now (text .entry)) ⌝ }
+{
+    match decimal(text) {
+        Number::Is(n) => Choice::After(n),
+        Number::Bad => Choice::Bad,
+    }
+}
+
 // The inputs with one of them set; there is none above 15.
 fn with_input(from: [u16; 16], channel: u8, value: u16) -> [u16; 16]
     ensures { λ r. ⌜ r ≡ set from channel value ⌝ }
@@ -192,7 +256,28 @@ fn with_input(from: [u16; 16], channel: u8, value: u16) -> [u16; 16]
     inputs
 }
 
-// The options with one choice made anew; a bad one changes nothing.
+// The word with the bit of line i; there is none above 15.
+fn weight(i: u8) -> u16
+    ensures { λ r. ⌜ r ≡ lineWeight i ⌝ }
+{
+    if i < 16 { 1 << (i as u16) } else { 0 }
+}
+
+// The options with the bits of a word more in the requests.
+fn with_requests(options: Options, word: u16) -> Options
+    ensures { λ r. ⌜ r ≡ withRequests options word ⌝ }
+{
+    let inputs = options.inputs;
+    Options {
+        steps: options.steps,
+        store: options.store,
+        inputs,
+        requests: options.requests | word,
+        after: options.after,
+    }
+}
+
+// The options with one choice made anew, or with more requests; a bad one changes nothing.
 pub fn with_choice(options: Options, choice: Choice) -> Options
     ensures { λ r. ⌜ r ≡ withChoice options choice ⌝ }
 {
@@ -202,11 +287,15 @@ pub fn with_choice(options: Options, choice: Choice) -> Options
             steps: n,
             store: options.store,
             inputs,
+            requests: options.requests,
+            after: options.after,
         },
         Choice::Store(w) => Options {
             steps: options.steps,
             store: w,
             inputs,
+            requests: options.requests,
+            after: options.after,
         },
         Choice::Input(channel, value) => {
             let changed = with_input(inputs, channel, value);
@@ -214,8 +303,51 @@ pub fn with_choice(options: Options, choice: Choice) -> Options
                 steps: options.steps,
                 store: options.store,
                 inputs: changed,
+                requests: options.requests,
+                after: options.after,
             }
         }
+        Choice::Requests(word) => with_requests(options, word),
+        Choice::Line(i) => with_requests(options, weight(i)),
+        Choice::After(n) => Options {
+            steps: options.steps,
+            store: options.store,
+            inputs,
+            requests: options.requests,
+            after: n,
+        },
         Choice::Bad => options,
     }
+}
+
+// How many steps come before the requests: all of them where there are none.
+pub fn quiet_steps(options: Options) -> u32
+    ensures { λ r. ⌜ (r ≡ quietSteps options) × (r ≤ options .steps) ⌝ }
+{
+    if options.requests == 0 {
+        return options.steps;
+    }
+    if options.steps < options.after {
+        return options.steps;
+    }
+    options.after
+}
+
+// Whether all steps of the budget were done.
+pub fn is_spent(ending: Ending) -> bool {
+    match ending {
+        Ending::Refused(_) => false,
+        Ending::Stopped(stop) => match stop {
+            Stop::Spent => true,
+            _ => false,
+        },
+    }
+}
+
+// Whether the requests come, where the steps before them ended so: more steps are left for them.
+pub fn comes_to_requests(options: Options, ending: Ending) -> bool {
+    if quiet_steps(options) < options.steps {
+        return is_spent(ending);
+    }
+    false
 }

@@ -54,6 +54,12 @@ pub fn reading(stop: Stop, count: u32, machine: Machine, words: [u16; 16]) {
     outputs(words);
 }
 
+// The third line of a reading: what is left of the requests.
+pub fn requests_left(requests: u16) {
+    number(STDOUT_FILENO, b"requests ", requests as u64);
+    line_end();
+}
+
 // The one line of a refusal.
 pub fn refused(refusal: u16) {
     number(STDOUT_FILENO, b"refused ", refusal as u64);

@@ -4,3 +4,4 @@ pub mod Find
 pub mod Words
 pub mod Process
 pub mod Decoded
+pub mod Weights

@@ -9,16 +9,16 @@ use lib.ListN.{length, set, replicate}
 use borrow.Author.Tests.{leb-true, ltb-true}
 use Rattle.mcode.specs.Word.{and}
 use Rattle.mcode.specs.Machine.{position}
-use Rattle.mcode.specs.Step.{Lent, Process, processAt, isProcess, standing, unitBased, restored, written, savedStore, restoredMachine, switched}
+use Rattle.mcode.specs.Step.{Lent, Process, processAt, isProcess, standing, unitBased, restored, written, savedStore, restoredMachine, changed, switched}
 use Rattle.mcode.proofs.Tests.{and-both}
 use Rattle.actions.specs.declared.Core.{Core}
 use Rattle.actions.specs.declared.Stepped.{Stepped}
 use Rattle.actions.specs.Core.{held, leftBy, result, stepped}
 use Rattle.actions.specs.Table.{Anchored, Lends}
-use Rattle.control.specs.Table.{firstBased, standsIn}
-use Rattle.control.specs.Transfer.{sized, resumed}
+use Rattle.control.specs.Table.{firstBased, standsIn, Mapped}
+use Rattle.control.specs.Transfer.{sized, targetIn, resumed}
 use Rattle.control.proofs.Laws.{based, from-start}
-use Rattle.control.proofs.Find.{find-stands, find}
+use Rattle.control.proofs.Find.{find-stands, find, stands-few}
 
 -- what the tests say
 pub record Sized (w q : ℕ) (x : Process) : Type 0 where
@@ -76,13 +76,57 @@ written-six g l at m s v p store =
 pub anchored-resumed : (table : List ℕ) (k b p : ℕ) (x : Process) (r : Core) (q : Stepped) → k < 32 → q ≡ stepped 0 0 (resumed table k b p x r) → Anchored table (q .core)
 anchored-resumed table k b p x r q h e = rw e (record { few = h; start = refl; g = refl; own = omega arith })
 
--- a transfer to a process that passes the tests
-pub switched-in : {bytes table marks words : List ℕ} {lent : Lent} → Lends bytes table marks words lent → (r : Core) → Anchored table r
-    → (b to c q : ℕ) (stack store out : List ℕ) → sized (length store) q (processAt store q) ≡ true
-    → standsIn table marks (firstBased table (processAt store q .g)) (processAt store q .pc) (processAt store q .k) ≡ true
-    → leftBy (held r stack store out) (switched lent b (position to) c q (held r stack store out))
-    ≡ result (stepped 0 0 (resumed table (firstBased table (processAt store q .g)) b q (processAt store q) r))
-    (restored store (processAt store q .k) (processAt store q .s - 1 - processAt store q .k) (replicate 16 0))
-    (savedStore (r .g .0) (position to) c (held r stack store []) (r .depth - 2)) out
-unfolding switched restoredMachine savedStore
-switched-in h r a b to c q stack store out s e = rw (process-in h (length store) q (processAt store q), s, e, find h _ _ _ e, based (h .tabled) a .own, from-start)
+pub not-so : {k t n : ℕ} → k ≡ t → (k ≡ n → ⊥) → t ≡ n → ⊥
+not-so e f z = f (e ∙ z)
+
+-- which module the target is in, and whether there is one
+module _ (table marks store : List ℕ) (q : ℕ) where
+  abbrev Passes : Bool
+  Passes = and (sized (length store) q (processAt store q)) (standsIn table marks (firstBased table (processAt store q .g)) (processAt store q .pc) (processAt store q .k))
+
+  passes : (targetIn table marks store q ≡ 32 → ⊥) → (Passes ≡ true) × (targetIn table marks store q ≡ firstBased table (processAt store q .g))
+  unfolding targetIn
+  passes n = by Passes refl
+    where
+      by : (t : Bool) → Passes ≡ t → (Passes ≡ true) × (targetIn table marks store q ≡ firstBased table (processAt store q .g))
+      by true e = (e, rw e refl)
+      by false e = absurd (n (rw e refl))
+
+  pub target-fits : (targetIn table marks store q ≡ 32 → ⊥) → sized (length store) q (processAt store q) ≡ true
+  target-fits n = and-both (sized (length store) q (processAt store q)) _ (passes n .0) .0
+
+  module _ (m : Mapped table marks) where
+    pub target-few : (targetIn table marks store q ≡ 32 → ⊥) → targetIn table marks store q < 32
+    target-few n =
+        let (t, e) = passes n in
+        let x = processAt store q in
+        rw e (stands-few table marks (firstBased table (x .g)) (x .pc) (x .k) m (and-both (sized (length store) q x) _ t .1))
+
+    fails : targetIn table marks store q ≡ 32 → Passes ≡ false
+    unfolding targetIn
+    fails z = by Passes refl
+      where
+        by : (t : Bool) → Passes ≡ t → Passes ≡ false
+        by false e = e
+        by true e =
+            let x = processAt store q in
+            let l = stands-few table marks (firstBased table (x .g)) (x .pc) (x .k) m (and-both (sized (length store) q x) _ e .1) in
+            absurd (let c : ⊥ = omega (arith, l, rw e at z) in c)
+
+module _ {bytes table marks words : List ℕ} {lent : Lent} (h : Lends bytes table marks words lent) (r : Core) (b to n c q : ℕ) (stack store out : List ℕ) where
+  -- a transfer to a process that passes the tests, and one that is 35
+  pub switched-in : Anchored table r → (targetIn table marks store q ≡ 32 → ⊥)
+      → leftBy (held r stack store out) (switched lent b (position to) n c q (held r stack store out))
+      ≡ result (stepped 0 0 (resumed table (targetIn table marks store q) b q (processAt store q) r))
+      (restored store (processAt store q .k) (processAt store q .s - 1 - processAt store q .k) (replicate 16 0))
+      (savedStore (r .g .0) (position to) c (held r stack store []) n) out
+  unfolding switched changed restoredMachine savedStore
+  switched-in a t =
+      let (p, f) = passes table marks store q t in
+      let e = and-both (sized (length store) q (processAt store q)) _ p .1 in
+      rw (process-in h (length store) q (processAt store q), p, f, find h _ _ _ e, based (h .tabled) a .own, from-start)
+
+  pub switched-not : Mapped table marks → targetIn table marks store q ≡ 32
+      → leftBy (held r stack store out) (switched lent b (position to) n c q (held r stack store out)) ≡ result (stepped 35 0 r) stack store out
+  unfolding switched
+  switched-not m z = rw (process-in h (length store) q (processAt store q), fails table marks store q m z)

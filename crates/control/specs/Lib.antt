@@ -2,3 +2,4 @@ pub mod Table
 pub mod Frames
 pub mod Transfer
 pub mod Rows
+pub mod Lines

@@ -1,14 +1,16 @@
--- TRANSFER: the tests of a process that the store alone decides, and the registers that it goes on with.
+-- Transfers: the tests of a process that the store alone decides, the module that it is in, and the registers that it goes on with.
 use mathlib.Core.Bool.{Bool}
 use mathlib.Core.List.{List}
 use Prim.Native.Nat.{ℕ, _+_, _-_}
 use lib.Dec.{ltb, leb, eqb}
+use lib.ListN.{length}
 use Rattle.mcode.specs.Word.{pick, and}
 use Rattle.mcode.specs.Image.{margin}
 use Rattle.mcode.specs.Machine.{address}
-use Rattle.mcode.specs.Step.{Process}
+use Rattle.mcode.specs.Step.{Process, processAt}
 use Rattle.actions.specs.declared.Core.{Core}
 use Rattle.actions.specs.Table.{moduleIn}
+use Rattle.control.specs.Table.{firstBased, standsIn}
 
 -- "q+8 <= W; 24 <= v <= W; 1 <= s <= W; k <= 16, k < s; s-1-k <= v-24"
 unfoldable pub sized : ℕ → ℕ → Process → Bool
@@ -18,6 +20,12 @@ sized w q x =
     (and (and (leb 1 (x .s)) (leb (x .s) w))
     (and (and (leb (x .k) 16) (ltb (x .k) (x .s)))
     (leb (x .s - 1 - x .k) (x .v - margin)))))
+
+-- the module of the process at q, which passes the tests; 32, which is none, where it does not
+unfoldable pub targetIn : List ℕ → List ℕ → List ℕ → ℕ → ℕ
+targetIn table map store q =
+    let x = processAt store q in
+    pick (and (sized (length store) q x) (standsIn table map (firstBased table (x .g)) (x .pc) (x .k))) (firstBased table (x .g)) 32
 
 -- the process x at q in module k; "M only if b /= 0"
 abbrev pub resumed : List ℕ → ℕ → ℕ → ℕ → Process → Core → Core

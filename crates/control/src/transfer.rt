@@ -1,4 +1,4 @@
-// 256 b, TRANSFER: everything is read before anything is written.
+// Transfers, by 256 b and by a line: everything is read before anything is written.
 use crate::saves::save_stack;
 use crate::saves::words_at;
 use crate::table::find_base;
@@ -21,12 +21,12 @@ ghost use lib.ListN.{length, getD, replicate};
 ghost use Rattle.mcode.specs.Word.{pick};
 ghost use Rattle.mcode.specs.Machine.{position};
 ghost use Rattle.mcode.specs.Decode as Act;
-ghost use Rattle.mcode.specs.Step.{Lent, processAt, restored, written, savedStore, switched};
+ghost use Rattle.mcode.specs.Step.{Lent, processAt, restored, written, savedStore, takenLine};
 ghost use Rattle.actions.specs.Core.{held, result, leftBy, acted, stepped};
 ghost use Rattle.actions.specs.Table.{Anchored, Lends};
 ghost use Rattle.control.specs.Table.{Mapped};
 ghost use Rattle.control.specs.Frames.{Framed, Roomy};
-ghost use Rattle.control.specs.Transfer.{sized, resumed};
+ghost use Rattle.control.specs.Transfer.{sized, targetIn, resumed};
 
 fn word_at(store: &[u16], i: usize) -> u16
     requires { ⌜ i < length (now store) ⌝ }
@@ -172,37 +172,46 @@ fn exchange(
     *stack = words;
 }
 
-// To the process whose record is at q, or 35.
-fn switch(
-    r: Core,
-    table: &[u16; 193],
-    map: &[u32],
-    stack: &mut [u16; 16],
-    store: &mut [u16],
-    b: u16,
-    q: u16,
-    c: usize,
-    to: usize,
-) -> Stepped
+// The module of the process whose record is at q, or 32 where none can go on there.
+fn target(table: &[u16; 193], map: &[u32], store: &[u16], q: u16) -> usize
     requires { ⌜ Mapped (now table) (now map) ⌝ }
-    requires { ⌜ Framed (now table) (length (now store)) r ⌝ }
-    requires { ⌜ Anchored (now table) r ⌝ }
-    requires { ⌜ (1 < r .depth) × (c < length (now store)) × (r .start ≤ to) × (to - r .start < 65536) ⌝ }
-    ensures { λ x. ⌜ ((lent : Lent) (bytes words : List ℕ) → Lends bytes (now (table .entry)) (now (map .entry)) words lent → (out : List ℕ) → result x (now (stack .exit)) (now (store .exit)) out ≡ leftBy (held r (now (stack .entry)) (now (store .entry)) out) (switched lent b (position (to - r .start)) c q (held r (now (stack .entry)) (now (store .entry)) out))) × Anchored (now (table .entry)) (x .core) ⌝ }
+    ensures { λ k. ⌜ k ≡ targetIn (now (table .entry)) (now (map .entry)) (now (store .entry)) q ⌝ }
 {
     let i = q as usize;
     if !is_sized(store, i) {
-        return trapped(r, 35);
+        return 32;
     }
     let s = word_at(store, i + 4) as usize;
     let n = word_at(store, s - 1) as usize;
     let k = find_base(table, word_at(store, i));
     if !stands(table, map, k, word_at(store, i + 2), n) {
-        return trapped(r, 35);
+        return 32;
     }
+    k
+}
+
+// To the process whose record is at q, in module k. Of the old one d words of its stack are saved; it goes on at `to`, and goes to word c.
+fn change(
+    r: Core,
+    table: &[u16; 193],
+    stack: &mut [u16; 16],
+    store: &mut [u16],
+    k: usize,
+    b: u16,
+    q: u16,
+    d: usize,
+    c: usize,
+    to: usize,
+) -> Stepped
+    requires { ⌜ (k < 32) × (sized (length (now store)) q (processAt (now store) q) ≡ true) ⌝ }
+    requires { ⌜ Roomy (length (now store)) r ⌝ }
+    requires { ⌜ (d ≤ 16) × (c < length (now store)) × (r .start ≤ to) × (to - r .start < 65536) ⌝ }
+    ensures { λ x. ⌜ (x ≡ stepped 0 0 (resumed (now (table .entry)) k b q (processAt (now (store .entry)) q) r)) × (now (stack .exit) ≡ restored (now (store .entry)) (processAt (now (store .entry)) q .k) (processAt (now (store .entry)) q .s - 1 - processAt (now (store .entry)) q .k) (replicate 16 0)) × (now (store .exit) ≡ savedStore (r .g .0) (position (to - r .start)) c (held r (now (stack .entry)) (now (store .entry)) []) d) ⌝ }
+{
+    let s = word_at(store, q as usize + 4) as usize;
+    let n = word_at(store, s - 1) as usize;
     let next = resume(r, table, store, k, b, q);
-    let d = r.depth;
-    exchange(r, stack, store, s - 1 - n, n, d - 2, c, to);
+    exchange(r, stack, store, s - 1 - n, n, d, c, to);
     next
 }
 
@@ -235,5 +244,45 @@ pub fn transfer(
         store[c] = r.p.0;
         return take_two(r, stack, to);
     }
-    switch(r, table, map, stack, store, b, q, c, to)
+    let k = target(table, map, store, q);
+    if k == 32 {
+        return trapped(r, 35);
+    }
+    let d = r.depth;
+    change(r, table, stack, store, k, b, q, d - 2, c, to)
+}
+
+// Line i: to the process in word 2i, with the mask changed, the whole stack saved and the position as it is; the old one goes to word
+// 2i + 1. Where that process is this one, only that word is written.
+pub fn take_line(
+    r: Core,
+    table: &[u16; 193],
+    map: &[u32],
+    stack: &mut [u16; 16],
+    store: &mut [u16],
+    i: usize,
+) -> Stepped
+    requires { ⌜ Mapped (now table) (now map) ⌝ }
+    requires { ⌜ Framed (now table) (length (now store)) r ⌝ }
+    requires { ⌜ Anchored (now table) r ⌝ }
+    requires { ⌜ (i < 16) × (32 ≤ length (now store)) × (r .pc - r .start < 65536) ⌝ }
+    ensures { λ x. ⌜ ((lent : Lent) (bytes words : List ℕ) → Lends bytes (now (table .entry)) (now (map .entry)) words lent → (out : List ℕ) → result x (now (stack .exit)) (now (store .exit)) out ≡ leftBy (held r (now (stack .entry)) (now (store .entry)) out) (takenLine lent i (held r (now (stack .entry)) (now (store .entry)) out))) × Anchored (now (table .entry)) (x .core) ⌝ }
+{
+    let from = 2 * i;
+    let q = word_at(store, from);
+    if q == r.p.0 {
+        store[from + 1] = r.p.0;
+        return Stepped {
+            stop: 0,
+            code: 0,
+            core: r,
+        };
+    }
+    let k = target(table, map, store, q);
+    if k == 32 {
+        return trapped(r, 35);
+    }
+    let d = r.depth;
+    let to = r.pc;
+    change(r, table, stack, store, k, 1, q, d, from + 1, to)
 }

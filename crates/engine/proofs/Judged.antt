@@ -22,8 +22,8 @@ use Rattle.actions.specs.Table.{moduleIn, Tabled}
 use Rattle.control.specs.Table.{countIn, standsIn}
 use Rattle.mcode.proofs.Tests.{all-at, at-all, first-or, second-or}
 use Rattle.execute.specs.Stepping.{Prepared}
-use Rattle.engine.specs.Numbers.{Words, Narrow}
-use Rattle.engine.specs.Judged.{zerosAbove, framedIn, machineIn, Passed, Judges}
+use Rattle.engine.specs.Numbers.{Narrow}
+use Rattle.engine.specs.Judged.{zerosAbove, framedIn, machineIn, Judges}
 use Rattle.loader.proofs.Begin.{read-told, store-fits-so}
 
 -- a test that fails at one number fails
@@ -128,6 +128,7 @@ module _ (image map : List ℕ) (m : Machine) (w outs ins : ℕ) (r : Parsed) (e
               told = subst (λ (p : Parsed). Told image (p .program)) e (read-told image r e l₁);
               covers = l₂;
               fits = subst (λ (p : Parsed). mapFits image (p .program) map ≡ true) e l₃;
+              roomy = omega (arith, store-fits-so (r .program .end) w l₄ .0);
               small = store-fits-so (r .program .end) w l₄ .1;
               tabled = subst (λ (p : Parsed). Tabled table (p .program)) e T;
             }

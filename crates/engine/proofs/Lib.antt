@@ -3,3 +3,4 @@ pub mod Numbers
 pub mod Closed
 pub mod Composed
 pub mod Turns
+pub mod Advancing

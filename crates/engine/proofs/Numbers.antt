@@ -14,7 +14,7 @@ use Rattle.mcode.specs.declared.Module.{Module}
 use Rattle.mcode.specs.declared.Program.{Program}
 use Rattle.mcode.proofs.Zeros.{length-written, written-out, written-in}
 use Rattle.actions.specs.Table.{moduleIn, Tabled}
-use Rattle.engine.specs.Numbers.{numbersOf, Words, Narrow}
+use Rattle.engine.specs.Numbers.{numbersOf, Narrow}
 
 module _ (m : Module) (k : ℕ) (t : List ℕ) where
   abbrev put : List ℕ

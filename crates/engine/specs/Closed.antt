@@ -20,14 +20,15 @@ startedOf image store outputs = state (startOf image store .machine) (startOf im
 pub record Ran2 (image map store outputs : List ℕ) (p q : Request) (r : TwoRuns) (store′ outputs′ : List ℕ) : Type 0 where
   pub ending : r .first .ending ≡ answer image map p (startedOf image store outputs) .ending
   pub count : r .first .count ≡ answer image map p (startedOf image store outputs) .count
-  pub machine : r .first .machine ≡ answer image map p (startedOf image store outputs) .state .machine
-  pub second : answered (r .second) store′ outputs′ ≡ answer image map q (answer image map p (startedOf image store outputs) .state)
+  pub machine : r .first .machine ≡ answer image map p (startedOf image store outputs) .state .state .machine
+  pub requests : r .first .requests ≡ answer image map p (startedOf image store outputs) .state .requests
+  pub second : answered (r .second) store′ outputs′ ≡ answer image map q (answer image map p (startedOf image store outputs) .state .state)
   pub owed : length outputs ≡ 16 → AllRuns image map (p ∷ q ∷ []) (startedOf image store outputs)
 
 -- a refusal by load or by start: nothing has run
-pub record NoRun (store outputs : List ℕ) (r : TwoRuns) (store′ outputs′ : List ℕ) : Type 0 where
-  pub first : r .first ≡ refusedAs (r .number)
-  pub second : r .second ≡ refusedAs (r .number)
+pub record NoRun (store outputs : List ℕ) (p q : Request) (r : TwoRuns) (store′ outputs′ : List ℕ) : Type 0 where
+  pub first : r .first ≡ refusedAs (r .number) (p .requests)
+  pub second : r .second ≡ refusedAs (r .number) (q .requests)
   pub kept : store′ ≡ store
   pub unchanged : outputs′ ≡ outputs
 
@@ -35,5 +36,5 @@ pub record Closes (image before store outputs : List ℕ) (p q : Request) (r : T
   pub loaded : Verdict
   pub loads : Loads image before loaded after
   pub number : r .number ≡ pick (leb 1 (loaded .number)) (loaded .number) (startOf image store .number)
-  pub refused : 1 ≤ r .number → NoRun store outputs r store′ outputs′
+  pub refused : 1 ≤ r .number → NoRun store outputs p q r store′ outputs′
   pub runs : r .number ≡ 0 → Ran2 image after store outputs p q r store′ outputs′

@@ -2,5 +2,6 @@
 pub mod judge;
 pub mod run;
 pub mod session;
+mod steps;
 pub mod stops;
 mod table;

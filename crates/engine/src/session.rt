@@ -15,11 +15,11 @@ pub struct TwoRuns {
     pub second: Ran,
 }
 
-fn no_session(number: u16) -> TwoRuns
-    ensures { λ r. ⌜ (r .number ≡ number) × (r .first ≡ refusedAs number) × (r .second ≡ refusedAs number) ⌝ }
+fn no_session(number: u16, requests: u16, others: u16) -> TwoRuns
+    ensures { λ r. ⌜ (r .number ≡ number) × (r .first ≡ refusedAs number requests) × (r .second ≡ refusedAs number others) ⌝ }
 {
-    let first = refused_with(number);
-    let second = refused_with(number);
+    let first = refused_with(number, requests);
+    let second = refused_with(number, others);
     TwoRuns {
         number,
         first,
@@ -34,25 +34,27 @@ pub fn two_runs(
     outputs: &mut [u16],
     inputs: &[u16],
     n: u32,
+    requests: u16,
     others: &[u16],
     m: u32,
+    later: u16,
 ) -> TwoRuns
-    ensures { λ r. ⌜ Closes (now (image .entry)) (now (map .entry)) (now (store .entry)) (now (outputs .entry)) (record { budget = n; inputs = now (inputs .entry) }) (record { budget = m; inputs = now (others .entry) }) r (now (map .exit)) (now (store .exit)) (now (outputs .exit)) ⌝ }
+    ensures { λ r. ⌜ Closes (now (image .entry)) (now (map .entry)) (now (store .entry)) (now (outputs .entry)) (record { budget = n; inputs = now (inputs .entry); requests = requests }) (record { budget = m; inputs = now (others .entry); requests = later }) r (now (map .exit)) (now (store .exit)) (now (outputs .exit)) ⌝ }
 {
     let verdict = load(image, map);
     let number = verdict.number;
     if 1 <= number {
-        return no_session(number);
+        return no_session(number, requests, later);
     }
     let started = start(image, store);
     let refusal = started.number;
     if 1 <= refusal {
-        return no_session(refusal);
+        return no_session(refusal, requests, later);
     }
     let machine = started.machine;
-    let first = run(machine, image, map, store, outputs, inputs, n);
+    let first = run(machine, image, map, store, outputs, inputs, n, requests);
     let between = first.machine;
-    let second = run(between, image, map, store, outputs, others, m);
+    let second = run(between, image, map, store, outputs, others, m, later);
     TwoRuns {
         number: 0,
         first,

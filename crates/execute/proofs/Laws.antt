@@ -13,7 +13,7 @@ use Rattle.mcode.specs.Word.{pick, and, or, allBelow}
 use Rattle.mcode.specs.Opcode.{lengths, takens, lefts}
 use Rattle.mcode.specs.Depths.{namesModule}
 use Rattle.mcode.specs.Image.{procCount}
-use Rattle.mcode.specs.Step.{Lent, stepOf}
+use Rattle.mcode.specs.Step.{Lent, instructionOf}
 use Rattle.actions.specs.declared.Core.{Core}
 use Rattle.actions.specs.Core.{instruction, performed, spentOp, leftBy, held, operandAt}
 use Rattle.actions.specs.Table.{moduleIn, Lends, Anchored, Needs}
@@ -36,8 +36,8 @@ operands-on : (image : List ℕ) {s p : ℕ} → s ≤ p → _≡_ {A = ℕ → 
 operands-on image h = fun-ext (λ k. ap (λ (i : ℕ). getD image i 0) (place-on h k))
 
 step-is : {image table map inputs : List ℕ} {lent : Lent} (r : Core) (stack store out : List ℕ) → Lends image table map inputs lent → Anchored table r
-    → instruction lent (opcodeAt image r) (operandAt image r) r stack store out ≡ leftBy (held r stack store out) (stepOf lent (held r stack store out))
-unfolding instruction stepOf
+    → instruction lent (opcodeAt image r) (operandAt image r) r stack store out ≡ leftBy (held r stack store out) (instructionOf lent (held r stack store out))
+unfolding instruction instructionOf
 step-is {image} r stack store out h a = rw (h .image, h .tabled .modules (r .unit) (a .few), ← a .start, place (a .own), operands-on image (a .own), position-on (a .own))
 
 -- ---- the rows that take and leave the same for each opcode: 0, 6 and 7, by one computed test of the table
@@ -162,6 +162,6 @@ module _ {image table map : List ℕ} {w : ℕ} {r : Core} (a : Asks image table
   turn-is {lent = lent} stack store out n h listed = go (eqb n 0)
     where
       go : (spent : Bool) → performed lent (pick spent spentOp (opcodeAt image r)) (operandAt image r) r stack store out
-          ≡ pick spent (record { stop = 30; code = 0; state = held r stack store out }) (leftBy (held r stack store out) (stepOf lent (held r stack store out)))
+          ≡ pick spent (record { stop = 30; code = 0; state = held r stack store out }) (leftBy (held r stack store out) (instructionOf lent (held r stack store out)))
       go true = refl
       go false = sym (performed-as lent _ _ _ _ _ _ (listed-not-spent listed)) ∙ step-is r stack store out h (a .anchored)

@@ -11,7 +11,7 @@ use Rattle.mcode.specs.Word.{pick}
 use Rattle.mcode.specs.Machine.{State, Outcome, go, halt, stopNumber, stopCode}
 use Rattle.mcode.specs.declared.Stop.{Stop}
 use Rattle.mcode.specs.declared.Stop.the-variants.{Spent, Ended, BadAddress, StackLimit, ReturnMark, BadProcess, ZeroDivisor, ResultRange, CheckFailed, BadChannel, Program as OfProgram}
-use Rattle.mcode.specs.Step.{Lent, stepOf}
+use Rattle.mcode.specs.Step.{Lent, instructionOf}
 use Rattle.actions.specs.Core.{Left, leftBy}
 use Rattle.execute.specs.Stepping.{turned}
 
@@ -45,18 +45,18 @@ stopped x (halt k) l e n = record { why = k; halts = refl; number = ap (λ (a : 
 
 -- ---- the same of a turn with a budget of n steps
 
-pub turn-goes : (lent : Lent) (n : ℕ) (x : State) (l : Left) → l ≡ turned lent n x → l .stop ≡ 0 → (n ≡ 0 → ⊥) × (stepOf lent x ≡ go (l .state))
+pub turn-goes : (lent : Lent) (n : ℕ) (x : State) (l : Left) → l ≡ turned lent n x → l .stop ≡ 0 → (n ≡ 0 → ⊥) × (instructionOf lent x ≡ go (l .state))
 turn-goes lent n x l e z = by (eqb n 0) refl e
   where
-    by : (spent : Bool) → eqb n 0 ≡ spent → l ≡ pick spent (record { stop = 30; code = 0; state = x }) (leftBy x (stepOf lent x)) → (n ≡ 0 → ⊥) × (stepOf lent x ≡ go (l .state))
+    by : (spent : Bool) → eqb n 0 ≡ spent → l ≡ pick spent (record { stop = 30; code = 0; state = x }) (leftBy x (instructionOf lent x)) → (n ≡ 0 → ⊥) × (instructionOf lent x ≡ go (l .state))
     by true t e = absurd (let c : ⊥ = omega (arith, ap (λ (a : Left). a .stop) e, z) in c)
-    by false t e = (eqb-false n 0 t, went-on x (stepOf lent x) l e z)
+    by false t e = (eqb-false n 0 t, went-on x (instructionOf lent x) l e z)
 
 pub turn-stops : (lent : Lent) (n : ℕ) (x : State) (l : Left) → l ≡ turned lent n x → (l .stop ≡ 0 → ⊥)
-    → ((n ≡ 0) × (l ≡ record { stop = 30; code = 0; state = x })) ⊎ ((n ≡ 0 → ⊥) × Stopped x (stepOf lent x) l)
+    → ((n ≡ 0) × (l ≡ record { stop = 30; code = 0; state = x })) ⊎ ((n ≡ 0 → ⊥) × Stopped x (instructionOf lent x) l)
 turn-stops lent n x l e s = by (eqb n 0) refl e
   where
-    by : (spent : Bool) → eqb n 0 ≡ spent → l ≡ pick spent (record { stop = 30; code = 0; state = x }) (leftBy x (stepOf lent x))
-        → ((n ≡ 0) × (l ≡ record { stop = 30; code = 0; state = x })) ⊎ ((n ≡ 0 → ⊥) × Stopped x (stepOf lent x) l)
+    by : (spent : Bool) → eqb n 0 ≡ spent → l ≡ pick spent (record { stop = 30; code = 0; state = x }) (leftBy x (instructionOf lent x))
+        → ((n ≡ 0) × (l ≡ record { stop = 30; code = 0; state = x })) ⊎ ((n ≡ 0 → ⊥) × Stopped x (instructionOf lent x) l)
     by true t e = inl (eqb-true n 0 t, e)
-    by false t e = inr (eqb-false n 0 t, stopped x (stepOf lent x) l e s)
+    by false t e = inr (eqb-false n 0 t, stopped x (instructionOf lent x) l e s)

@@ -11,7 +11,7 @@ use Rattle.mcode.specs.Image.{parse}
 use Rattle.mcode.specs.Layout.{Told}
 use Rattle.mcode.specs.Depths.{frontOf, namesModule, entry, mapFits}
 use Rattle.mcode.specs.Machine.{State, state}
-use Rattle.mcode.specs.Step.{Lent, stepOf}
+use Rattle.mcode.specs.Step.{Lent, instructionOf}
 use Rattle.actions.specs.declared.Core.{Core}
 use Rattle.actions.specs.Core.{Left, leftBy, operandAt, spentOp}
 use Rattle.actions.specs.Table.{Tabled, Anchored}
@@ -33,12 +33,13 @@ pub record Asks (image table map : List ℕ) (w op : ℕ) (r : Core) : Type 0 wh
   pub front : op ≡ 0o260 → frontOf (entry map (r .pc)) ≤ 15
   pub anchored : Anchored table r
 
--- what was tested and made before the first step: the image was read, the map is as long and fits, the store is not too long, and the
--- lent numbers are the program's
+-- what was tested and made before the first step: the image was read, the map is as long and fits, the store has the words of the lines
+-- (2i and 2i + 1, at most 31) and is not too long, and the lent numbers are the program's
 pub record Prepared (image table map : List ℕ) (w : ℕ) : Type 0 where
   pub told : Told image (parse image .program)
   pub covers : length image ≤ length map
   pub fits : mapFits image (parse image .program) map ≡ true
+  pub roomy : 32 ≤ w
   pub small : w ≤ 65535
   pub tabled : Tabled table (parse image .program)
 
@@ -48,7 +49,7 @@ chosenOp n op = pick (eqb n 0) spentOp op
 
 -- "30 spent"; else a step of the definition
 abbrev pub turned : Lent → ℕ → State → Left
-turned lent n x = pick (eqb n 0) (record { stop = 30; code = 0; state = x }) (leftBy x (stepOf lent x))
+turned lent n x = pick (eqb n 0) (record { stop = 30; code = 0; state = x }) (leftBy x (instructionOf lent x))
 
 -- what the step of a machine by value answered, with what it left behind its references
 abbrev pub answered : Next → List ℕ → List ℕ → Left

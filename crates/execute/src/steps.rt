@@ -13,7 +13,7 @@ ghost use lib.ListN.{length};
 ghost use Rattle.mcode.specs.Image.{parse};
 ghost use Rattle.mcode.specs.Machine as M;
 ghost use Rattle.mcode.specs.Machine.{isMachine, state};
-ghost use Rattle.mcode.specs.Step.{stepOf};
+ghost use Rattle.mcode.specs.Step.{instructionOf};
 ghost use Rattle.mcode.specs.Run.{lentTo};
 ghost use Rattle.actions.specs.Core.{shown, leftBy};
 ghost use Rattle.actions.specs.Table.{Anchored};
@@ -98,7 +98,7 @@ pub fn step(
     requires { ⌜ Prepared (now image) (now table) (now map) (length (now store)) ⌝ }
     requires { ⌜ isMachine (parse (now image) .program) (now map) (length (now store)) machine ≡ true ⌝ }
     requires { ⌜ (length (now inputs) ≡ 16) × (length (now outputs) ≡ 16) ⌝ }
-    ensures { λ q. ⌜ answered q (now (store .exit)) (now (outputs .exit)) ≡ leftBy (state machine (now (store .entry)) (now (outputs .entry))) (stepOf (lentTo (now (image .entry)) (now (map .entry)) (now (inputs .entry))) (state machine (now (store .entry)) (now (outputs .entry)))) ⌝ }
+    ensures { λ q. ⌜ answered q (now (store .exit)) (now (outputs .exit)) ≡ leftBy (state machine (now (store .entry)) (now (outputs .entry))) (instructionOf (lentTo (now (image .entry)) (now (map .entry)) (now (inputs .entry))) (state machine (now (store .entry)) (now (outputs .entry)))) ⌝ }
 {
     let registers = machine.registers;
     let mut stack = machine.stack;

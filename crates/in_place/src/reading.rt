@@ -1,4 +1,4 @@
-// A whole reading: load, then start, then one run.
+// A whole reading: load, then start, then one run without requests.
 use crate::run::run;
 use engine::run::Ran;
 use engine::run::refused_with;
@@ -21,12 +21,12 @@ pub fn reading(
     let verdict = load(image, map);
     let number = verdict.number;
     if 1 <= number {
-        return refused_with(number);
+        return refused_with(number, 0);
     }
     let started = start(image, store);
     let refusal = started.number;
     if 1 <= refusal {
-        return refused_with(refusal);
+        return refused_with(refusal, 0);
     }
     let machine = started.machine;
     run(machine, image, map, store, outputs, inputs, n)

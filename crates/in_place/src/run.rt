@@ -1,4 +1,5 @@
-// Run with one machine in place: the refusals, then a loop that lends the machine to one step after another until a stop is found.
+// Run with one machine in place: the refusals, then a loop that lends the machine to one step after another until a stop is found. "The desk
+// program gives 0": no line is requested.
 use crate::step::Halt;
 use crate::step::step_in_place;
 use engine::judge::judge;
@@ -8,8 +9,8 @@ use mcode::Ending;
 use mcode::Machine;
 ghost use mathlib.Core.Path.{_≡_};
 ghost use lib.ListN.{length};
-ghost use Rattle.mcode.specs.Machine.{state};
-ghost use Rattle.mcode.specs.Step.{stepOf};
+ghost use Rattle.mcode.specs.Machine.{state, live};
+ghost use Rattle.mcode.specs.Step.{instructionOf};
 ghost use Rattle.mcode.specs.Run.{lentTo, runN, runOf};
 ghost use Rattle.engine.specs.Judged.{Passed};
 ghost use Rattle.engine.specs.Ran.{answered};
@@ -34,7 +35,7 @@ fn steps_in_place(
     n: u32,
 ) -> Halted
     requires { ⌜ Passed (now image) (now map) machine (length (now store)) (length (now outputs)) (length (now inputs)) (now table) ⌝ }
-    ensures { λ q. ⌜ haltedAt q (now (store .exit)) (now (outputs .exit)) ≡ runN (stepOf (lentTo (now (image .entry)) (now (map .entry)) (now (inputs .entry)))) n (state machine (now (store .entry)) (now (outputs .entry))) ⌝ }
+    ensures { λ q. ⌜ haltedAt q (now (store .exit)) (now (outputs .exit)) ≡ runN (instructionOf (lentTo (now (image .entry)) (now (map .entry)) (now (inputs .entry)))) n (state machine (now (store .entry)) (now (outputs .entry))) ⌝ }
 {
     let mut m = machine;
     let mut count = 0u32;
@@ -65,7 +66,7 @@ pub fn run(
     inputs: &[u16],
     n: u32,
 ) -> Ran
-    ensures { λ r. ⌜ answered r (now (store .exit)) (now (outputs .exit)) ≡ runOf (now (image .entry)) (now (map .entry)) (now (inputs .entry)) n (state machine (now (store .entry)) (now (outputs .entry))) ⌝ }
+    ensures { λ r. ⌜ answered r (now (store .exit)) (now (outputs .exit)) ≡ runOf (now (image .entry)) (now (map .entry)) (now (inputs .entry)) n (live (state machine (now (store .entry)) (now (outputs .entry))) 0) ⌝ }
 {
     let judged = judge(
         machine,
@@ -81,6 +82,7 @@ pub fn run(
             ending: Ending::Refused(refusal),
             count: 0,
             machine,
+            requests: 0,
         };
     }
     let table = judged.table;
@@ -92,5 +94,6 @@ pub fn run(
         ending: Ending::Stopped(stop),
         count: h.count,
         machine: last,
+        requests: 0,
     }
 }

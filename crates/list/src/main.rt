@@ -36,10 +36,7 @@ fn word(i: usize) -> Asked {
     match kind(text) {
         Argument::Help => Asked::Help,
         Argument::File => Asked::File,
-        Argument::Steps => unknown(text),
-        Argument::Store => unknown(text),
-        Argument::Input => unknown(text),
-        Argument::Unknown => unknown(text),
+        _ => unknown(text),
     }
 }
 

@@ -1,4 +1,4 @@
--- One step has the right outcome: by cases on the action. Assumes nothing.
+-- An instruction has the right outcome: by cases on the action. Assumes nothing.
 use mathlib.Core.Path.{_≡_, refl, ap, ap₂, subst, sym, _∙_}
 use mathlib.Core.Bool.{Bool, true, false}
 use Prim.Native.Nat.{ℕ, _+_, _-_, _≤_, _<_}
@@ -16,7 +16,7 @@ use Rattle.mcode.specs.declared.Flow.{Flow}
 use Rattle.mcode.specs.declared.Flow.the-variants.{Fault as NoFlow, Ends, To, Fork}
 use Rattle.mcode.specs.Machine.{State, go, halt, position, machine, at, framed, top, second, take1, take2, put, replace1, replace2, replace3, putPair, pairFor1}
 use Rattle.mcode.specs.Decode.{Decoded, sized, row11, decodeOf}
-use Rattle.mcode.specs.Step.{performOf, stepOf}
+use Rattle.mcode.specs.Step.{performOf, instructionOf}
 use Rattle.mcode.proofs.Rows.{listed-below, takenBy, leftBy, ownOp, size-row, taken-row, left-row, own-row}
 use Rattle.mcode.proofs.Marks.{depth-stored, depth-fetched, promised-stored, promised-fetched, store-permitted, fetch-permitted, leaves-stored, leaves-fetched, leaves-passed}
 use Rattle.mcode.proofs.FlowRows.{flowOf, flow-row}
@@ -49,13 +49,13 @@ module _ (H : Here) where
   perform-right q (Three op) o n₁ n₂ t h f = computes H q (replace3 q (M H)) (three-real op _ _ _) (λ v. replace3-fine H q v t h f)
   perform-right q Copy o n₁ n₂ t h f = to H q _ (put-fine H 1 2 q _ (omega arith) h f)
   perform-right q Nothing o n₁ n₂ t h f = to H q _ (on-fine H q h f)
-  perform-right q Read o n₁ n₂ t h f = by-test H q (ltb 15 (top (M H))) (λ e. off tt) (λ e. writes H q (second (M H)) _ _ (take2-fine H q h f))
+  perform-right q Read o n₁ n₂ t h f = by-test H (ltb 15 (top (M H))) (λ e. off tt) (λ e. writes H q (second (M H)) _ _ (take2-fine H q h f))
   perform-right q Write o n₁ n₂ t h f =
-      by-test H q (ltb 15 (second (M H))) (λ e. off tt) (λ e.
+      by-test H (ltb 15 (second (M H))) (λ e. off tt) (λ e.
       to-all H q (take2 q (M H)) (H .x .store) (set (H .x .outputs) (second (M H)) (top (M H))) (take2-fine H q h f) refl (length-set (H .x .outputs) (second (M H)) (top (M H))))
   perform-right q Trap o n₁ n₂ t h f = off tt
   perform-right q (Enter b) o n₁ n₂ t h f =
-      by-test H q (ltb (R H .h .0) (R H .s .0 + b)) (λ e. off tt) (λ e.
+      by-test H (ltb (R H .h .0) (R H .s .0 + b)) (λ e. off tt) (λ e.
       to H q (machine (at q (D H) (framed (R H .unit) (R H .l .0) (R H .s .0 + b) (R H))) (M H .stack)) (record {
         counts = framed-counts H 0 0 (R H .unit) q (D H) (R H .l .0) (R H .s .0 + b) (M H .stack) (same-stack H) (next-at H (q .0) (D H) h f (omega arith)) (ltb-false _ _ e) (omega arith);
         stays = next-stays H _ h f refl refl refl;
@@ -100,7 +100,7 @@ module _ (H : Here) where
         left = left-row (Op H) (R H) (basesOf (P H)) (opcode H) h l;
       }
 
-  -- one step
+  -- one instruction
   abbrev pub nextAt : Position
   nextAt = position (R H .pc .0 + decoded .size)
 
@@ -174,8 +174,8 @@ module _ (H : Here) where
       (λ stack. mark-stays H _ k n (omega arith) (depth-fetched (Mark H) few) (promised-fetched (Mark H) few) m refl refl refl))
       follow
 
-  step-right : Right H nextAt (decoded .action) (stepOf (H .lent) (H .x))
-  unfolding stepOf
+  step-right : Right H nextAt (decoded .action) (instructionOf (H .lent) (H .x))
+  unfolding instructionOf
   step-right = by (eqb (opcode H) 0o262) refl (eqb (opcode H) 0o260) refl
     where
       by : (u : Bool) → eqb (opcode H) 0o262 ≡ u → (v : Bool) → eqb (opcode H) 0o260 ≡ v → Steps decoded
@@ -185,8 +185,11 @@ module _ (H : Here) where
           perform-right nextAt (decoded .action) (own-row (Op H) (R H) (basesOf (P H)) (opcode H) (decodes .below)) u w
           (subst (λ (k : ℕ). k ≤ D H) (decodes .taken) (rules H .found)) (subst (λ (k : ℕ). k ≤ 16) then-is (rules H .room)) (asked u w)
 
-  pub step-goes : {y : State} → stepOf (H .lent) (H .x) ≡ go y → Ok H y × Did H nextAt y (decoded .action) × Leads H nextAt (decoded .action) (y .machine)
-  step-goes e = subst (Says H nextAt (decoded .action)) e (says H nextAt (decoded .action) step-right)
+  abbrev Done : State → Type 0
+  Done y = Did H nextAt y (decoded .action) × Leads H nextAt (decoded .action) (y .machine)
 
-  pub step-halts : {k : Stop} → stepOf (H .lent) (H .x) ≡ halt k → Found k
-  step-halts e = subst (Says H nextAt (decoded .action)) e (says H nextAt (decoded .action) step-right)
+  pub step-goes : {y : State} → instructionOf (H .lent) (H .x) ≡ go y → Ok H y × Done y
+  step-goes e = subst (Says H Done) e (says H Done step-right)
+
+  pub step-halts : {k : Stop} → instructionOf (H .lent) (H .x) ≡ halt k → Found k
+  step-halts e = subst (Says H Done) e (says H Done step-right)

@@ -1,5 +1,5 @@
 -- A procedure that returns through an untouched frame lands behind its call, and the main body ends. Assumes nothing.
-use mathlib.Core.Path.{_≡_, refl, sym, ap, _∙_, subst}
+use mathlib.Core.Path.{_≡_, refl, sym, ap, ap₂, _∙_, subst}
 use mathlib.Core.Logic.{_⊎_, inl, inr}
 use mathlib.Core.Bool.{Bool, true, false}
 use mathlib.Core.List.{List, [], _∷_}
@@ -19,13 +19,13 @@ use Rattle.mcode.specs.declared.Stop.the-variants.{StackLimit}
 use Rattle.mcode.specs.Word.{pick}
 use Rattle.mcode.specs.Opcode.{lengths, takens, lefts}
 use Rattle.mcode.specs.Image.{noModule, parse, moduleOf, basesOf, entryOf, paramsOf, resultsOf}
-use Rattle.mcode.specs.Depths.{Follows, promised, leaves, calls, onward, carry, depths, marksOf, mapFits}
+use Rattle.mcode.specs.Depths.{Follows, promised, leaves, calls, onward, carry, depths, markAt, marksOf, mapFits}
 use Rattle.mcode.specs.Machine.{State, state, Outcome, go, halt, position, machine, at, framed}
 use Rattle.mcode.specs.Decode.{Action, Call, CallLinked, CallExternal, sized, decodeOf, row14, row15}
-use Rattle.mcode.specs.Step.{wordIn, call, unitOf, unitBased, backTo, returned, written, performOf, stepOf}
+use Rattle.mcode.specs.Step.{wordIn, call, unitOf, unitBased, backTo, returned, written, performOf, instructionOf}
 use Rattle.mcode.specs.Run.{lentTo}
 use Rattle.mcode.specs.Layout.{Told}
-use Rattle.mcode.specs.Demands.{opcodeAt, isCall, isPlain, Untouched, Behind, Goes, arrived, by-step, Within, entered, stays, calls as called, transfers, CallReturns, MainEnds}
+use Rattle.mcode.specs.Demands.{opcodeAt, isCall, isPlain, Untouched, Resumed, Behind, Goes, arrived, by-step, Within, entered, stays, calls as called, transfers, interrupted, CallReturns, MainEnds}
 use Rattle.mcode.proofs.Compose.{go-same}
 use Rattle.mcode.proofs.Marks.{promised-mark, return-permitted, leaves-passed}
 use Rattle.mcode.proofs.Standing.{At, good-of, marked-at, fits-part, part-mark}
@@ -35,6 +35,7 @@ use Rattle.mcode.proofs.Zeros.{written-in}
 use Rattle.mcode.proofs.Shapes.{Kept, Stays, promisedAt, Here, P, R, D, M, U, Op, opcode, Mark, rules, Marks, Asks, next-at, next-stays}
 use Rattle.mcode.proofs.Frames.{asks-call, in-other}
 use Rattle.mcode.proofs.Keeps.{decodes, nextAt, asked, step-goes}
+use Rattle.mcode.proofs.Lines.{live-goes}
 use Rattle.mcode.proofs.Reader.{told}
 use Rattle.mcode.proofs.Load.{loaded}
 use Rattle.mcode.proofs.Session.{start-here}
@@ -157,8 +158,8 @@ module _ (H : Here) where
   abbrev Next : ℕ
   Next = R H .pc .0 + getD lengths (opcode H) 0
 
-  call-step : (T : Told (H .lent .image) (P H)) → {y : State} → isCall (opcode H) ≡ true → stepOf (H .lent) (H .x) ≡ go y → Enters Next y
-  unfolding stepOf
+  call-step : (T : Told (H .lent .image) (P H)) → {y : State} → isCall (opcode H) ≡ true → instructionOf (H .lent) (H .x) ≡ go y → Enters Next y
+  unfolding instructionOf
   call-step T t e =
       let l = leb-true 0o355 (opcode H) t in
       let c = calls-row _ _ _ (opcode H) l (decodes H .below) (rules H .listed) in
@@ -168,8 +169,8 @@ module _ (H : Here) where
 
   -- ---- returns
 
-  step-return : opcode H ≡ 0o354 → stepOf (H .lent) (H .x) ≡ returned (H .lent) (H .x)
-  unfolding stepOf decodeOf row14 performOf
+  step-return : opcode H ≡ 0o354 → instructionOf (H .lent) (H .x) ≡ returned (H .lent) (H .x)
+  unfolding instructionOf decodeOf row14 performOf
   step-return e = rw e refl
 
   -- position t of module k, with what the frame says
@@ -200,7 +201,7 @@ module _ (image map : List ℕ) (parsed : parse image .refusal ≡ 0) (fit : map
   program = parse image .program
 
   abbrev f : List ℕ → State → Outcome
-  f inputs = stepOf (lentTo image map inputs)
+  f inputs = instructionOf (lentTo image map inputs)
 
   abbrev Ok : State → Type 0
   Ok x = Kept program map w x
@@ -268,7 +269,7 @@ module _ (image map : List ℕ) (parsed : parse image .refusal ≡ 0) (fit : map
   plain-same : (inputs : List ℕ) {y z v : State} → Same y z → isPlain (opcodeAt image (z .machine)) ≡ true → f inputs z ≡ go v → Same y v
   plain-same inputs {z = z} s t e =
       let H = here inputs z (s .kept) in
-      let (k, d, l) = step-goes H e in
+      let (k, (d, l)) = step-goes H e in
       record { kept = k; stays = stays-on (s .stays) (l (opcode H) (own-row _ _ _ (opcode H) (decodes H .below)) t) }
 
   call-same : (given inputs : List ℕ) {y z a b v : State} → Same y z → isCall (opcodeAt image (z .machine)) ≡ true → f given z ≡ go a
@@ -284,16 +285,23 @@ module _ (image map : List ℕ) (parsed : parse image .refusal ≡ 0) (fit : map
   -- any steps lead from a machine to a machine
   goes-kept : {x y : State} → Ok x → Goes image map x y → Ok y
   goes-kept k arrived = k
-  goes-kept k (by-step inputs {x = x} e g) = goes-kept (step-goes (here inputs x k) e .0) g
+  goes-kept k (by-step inputs v u {x = x} e g) = goes-kept (live-goes (here inputs x k) v e .0) g
 
   transfer-same : {y z v : State} → Same y z → opcodeAt image (z .machine) ≡ 0o256 → Goes image map z v → Behind image z v → Same y v
   transfer-same {z = z} {v = v} s op g B = record { kept = goes-kept (s .kept) g; stays = stays-on (s .stays) (behind-transfer z v (s .kept) op B) }
+
+  interrupted-same : {y z v : State} → Same y z → Goes image map z v → Resumed (z .machine .registers .pc .0) z v → Same y v
+  interrupted-same {z = z} {v = v} s g B = record {
+    kept = goes-kept (s .kept) g;
+    stays = stays-on (s .stays) (record { unit = B .unit; frame = B .frame; limit = B .limit; promise = ap₂ (λ (k p : ℕ). promised (markAt map (moduleOf program k) p)) (B .unit) (B .next) });
+  }
 
   same : {y z : State} → Ok y → Within image map y z → Same y z
   same k entered = record { kept = k; stays = record { unit = refl; frame = refl; limit = refl; promise = refl } }
   same k (stays inputs i t e) = plain-same inputs (same k i) t e
   same k (called given inputs i t e j op u g) = call-same given inputs (same k i) t e (λ l. same l j) op u g
   same k (transfers i op g B) = transfer-same (same k i) op g B
+  same k (interrupted i g B) = interrupted-same (same k i) g B
 
 pub call-returns : CallReturns
 unfolding CallReturns

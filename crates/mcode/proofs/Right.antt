@@ -22,6 +22,15 @@ use Rattle.mcode.proofs.Rows.{takenBy, leftBy, ownOp}
 use Rattle.mcode.proofs.Faults.{Found, Real, is, fault}
 use Rattle.mcode.proofs.Shapes.{Stays, Here, P, R, D, M, Mark, Marks, Ok, Counts, Fine, take1-fine}
 
+-- the outcome goes on to a machine that stands, and did what is asked, or it is a stop
+pub data Rightly (H : Here) (Q : State → Type 0) : Outcome → Type 0 where
+  on : {y : State} → Ok H y → Q y → Rightly H Q (go y)
+  off : {k : Stop} → Found k → Rightly H Q (halt k)
+
+pub by-test : (H : Here) {Q : State → Type 0} (t : Bool) {o u : Outcome} → (t ≡ true → Rightly H Q o) → (t ≡ false → Rightly H Q u) → Rightly H Q (pick t o u)
+by-test H true f g = f refl
+by-test H false f g = g refl
+
 module _ (H : Here) (n : Position) where
   -- what the action did, with y the next state and n the next position
   pub data Did (y : State) : Action → Type 0 where
@@ -36,14 +45,13 @@ module _ (H : Here) (n : Position) where
   abbrev pub Leads : Action → Machine → Type 0
   Leads a m = (op : ℕ) → T (ownOp op a) → isPlain op ≡ true → Stays (P H) (H .lent .map) (M H) m
 
-  pub data Right (a : Action) : Outcome → Type 0 where
-    on : {y : State} → Ok H y → Did y a → Leads a (y .machine) → Right a (go y)
-    off : {k : Stop} → Found k → Right a (halt k)
+  abbrev pub Right : Action → Outcome → Type 0
+  Right a o = Rightly H (λ y. Did y a × Leads a (y .machine)) o
 
 module _ (H : Here) (n : Position) {a : Action} where
   -- to the machine m, which the row describes; with another store, other outputs
   pub led : (m : Machine) (s o : List ℕ) → Counts H (takenBy a) (leftBy a) m → Leads H n a m → length s ≡ length (H .x .store) → length o ≡ length (H .x .outputs) → Right H n a (go (state m s o))
-  led m s o f l p q = on (record { good = f .good; sized = p ∙ H .kept .sized; outs = q ∙ H .kept .outs }) (rows (f .left) (f .deep)) l
+  led m s o f l p q = on (record { good = f .good; sized = p ∙ H .kept .sized; outs = q ∙ H .kept .outs }) (rows (f .left) (f .deep), l)
 
   pub to-all : (m : Machine) (s o : List ℕ) → Fine H (takenBy a) (leftBy a) m → length s ≡ length (H .x .store) → length o ≡ length (H .x .outputs) → Right H n a (go (state m s o))
   to-all m s o f = led m s o (f .counts) (λ op t p. f .stays)
@@ -51,16 +59,12 @@ module _ (H : Here) (n : Position) {a : Action} where
   pub to : (m : Machine) → Fine H (takenBy a) (leftBy a) m → Right H n a (goes (H .x) m)
   to m f = to-all m (H .x .store) (H .x .outputs) f refl refl
 
-  pub by-test : (t : Bool) {o u : Outcome} → (t ≡ true → Right H n a o) → (t ≡ false → Right H n a u) → Right H n a (pick t o u)
-  by-test true f g = f refl
-  by-test false f g = g refl
-
   pub to-either : (t : Bool) (m m′ : Machine) → Right H n a (goes (H .x) m) → Right H n a (goes (H .x) m′) → Right H n a (goes (H .x) (pick t m m′))
   to-either true m m′ f g = f
   to-either false m m′ f g = g
 
   pub in-store : (k : ℕ) {o : Outcome} → Right H n a o → Right H n a (inStore (H .x) k o)
-  in-store k f = by-test (ltb k (length (H .x .store))) (λ t. f) (λ t. off tt)
+  in-store k f = by-test H (ltb k (length (H .x .store))) (λ t. f) (λ t. off tt)
 
   -- a word is read, or v is written, at k
   pub reads : (k : ℕ) (m : Machine) → Fine H (takenBy a) (leftBy a) m → Right H n a (inStore (H .x) k (goes (H .x) m))
@@ -71,7 +75,7 @@ module _ (H : Here) (n : Position) {a : Action} where
 
   -- a pair is read, or written, at k: both addresses are tested before anything else
   in-pair : (k : ℕ) {o : Outcome} → Right H n a o → Right H n a (inPair (H .x) k o)
-  in-pair k f = by-test (hasPair (length (H .x .store)) k) (λ t. f) (λ t. off tt)
+  in-pair k f = by-test H (hasPair (length (H .x .store)) k) (λ t. f) (λ t. off tt)
 
   pub reads-pair : (k : ℕ) (m : ℕ → ℕ → Machine) → ((u v : ℕ) → Fine H (takenBy a) (leftBy a) (m u v)) → Right H n a (readsPair (H .x) k m)
   reads-pair k m f = in-pair k (to _ (f _ _))
@@ -90,17 +94,16 @@ module _ (H : Here) (n : Position) where
   fallen h f = let z : D H - 1 + 1 - 1 ≡ D H - 1 + 0 = omega arith in take1-fine H n (omega arith) (f ∙ ap (passed (Mark H)) z)
 
   pub falls-or : (t : Position) → D H - 1 + 1 ≤ 16 → Marks H (n .0) (D H - 1 + 1 - 1) → Right H n (OrJump t) (goes (H .x) (take1 n (M H)))
-  falls-or t h f = let g = fallen h f in on (record { good = g .counts .good; sized = H .kept .sized; outs = H .kept .outs }) (no-or (g .counts .left) refl) (λ op o p. g .stays)
+  falls-or t h f = let g = fallen h f in on (record { good = g .counts .good; sized = H .kept .sized; outs = H .kept .outs }) (no-or (g .counts .left) refl, λ op o p. g .stays)
 
   pub falls-and : (t : Position) → D H - 1 + 1 ≤ 16 → Marks H (n .0) (D H - 1 + 1 - 1) → Right H n (AndJump t) (goes (H .x) (take1 n (M H)))
-  falls-and t h f = let g = fallen h f in on (record { good = g .counts .good; sized = H .kept .sized; outs = H .kept .outs }) (no-and (g .counts .left) refl) (λ op o p. g .stays)
+  falls-and t h f = let g = fallen h f in on (record { good = g .counts .good; sized = H .kept .sized; outs = H .kept .outs }) (no-and (g .counts .left) refl, λ op o p. g .stays)
 
 -- what is right, of a known outcome
-module _ (H : Here) (n : Position) (a : Action) where
-  abbrev pub Says : Outcome → Type 0
-  Says (go y) = Ok H y × Did H n y a × Leads H n a (y .machine)
-  Says (halt k) = Found k
+abbrev pub Says : Here → (State → Type 0) → Outcome → Type 0
+Says H Q (go y) = Ok H y × Q y
+Says H Q (halt k) = Found k
 
-  pub says : {o : Outcome} → Right H n a o → Says o
-  says (on k d l) = (k, d, l)
-  says (off f) = f
+pub says : (H : Here) (Q : State → Type 0) {o : Outcome} → Rightly H Q o → Says H Q o
+says H Q (on k d) = (k, d)
+says H Q (off f) = f

@@ -1,4 +1,4 @@
--- Each step of a machine that stands takes and puts what the table says of its opcode. Assumes nothing.
+-- Each instruction of a machine that stands takes and puts what the table says of its opcode. Assumes nothing.
 use mathlib.Core.Path.{_≡_, refl, sym, ap, ap₂, _∙_, subst}
 use mathlib.Core.Logic.{inl, inr}
 use mathlib.Core.Bool.{true}
@@ -11,7 +11,7 @@ use Rattle.mcode.specs.Image.{parse}
 use Rattle.mcode.specs.Depths.{mapFits}
 use Rattle.mcode.specs.Machine.{State, go, position, depth}
 use Rattle.mcode.specs.Decode.{Action}
-use Rattle.mcode.specs.Step.{stepOf}
+use Rattle.mcode.specs.Step.{instructionOf}
 use Rattle.mcode.specs.Run.{lentTo}
 use Rattle.mcode.specs.Demands.{opcodeAt, Accounts, by-row, falls, changes, saves, fetches}
 use Rattle.mcode.proofs.Rows.{takenBy, leftBy, ownOp, own-row}
@@ -43,7 +43,7 @@ module _ (image map inputs : List ℕ) (fit : mapFits image (parse image .progra
   from-did a size s t u o (away q d) = saves (eqb→eq op 0o262 o) q d
   from-did a size s t u o (again k d w l q e) = fetches (eqb→eq op 0o260 o) d k w l q e
 
-  pub account : stepOf (lentTo image map inputs) x ≡ go y → Accounts image x y
+  pub account : instructionOf (lentTo image map inputs) x ≡ go y → Accounts image x y
   account e =
       let d = decodes H in
-      from-did (decoded H .action) (decoded H .size) (d .size) (d .taken) (d .left) (own-row _ _ _ (opcode H) (d .below)) (step-goes H e .1)
+      from-did (decoded H .action) (decoded H .size) (d .size) (d .taken) (d .left) (own-row _ _ _ (opcode H) (d .below)) (step-goes H e .1 .0)

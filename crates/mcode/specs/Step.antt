@@ -1,13 +1,13 @@
--- One step: the instruction at the machine's position is decoded to an action, and the action is performed.
-use Prim.Native.Nat.{ℕ, zero, suc, _+_, _-_, _*_, _/_, _%_}
-use mathlib.Core.Bool.{Bool, true, false}
+-- One step: a line is taken, or the instruction at the machine's position is decoded to an action and the action is performed.
+use Prim.Native.Nat.{ℕ, zero, suc, _+_, _-_, _*_, _/_, _%_, _^_}
+use mathlib.Core.Bool.{Bool, true, false, not}
 use mathlib.Core.List.{List, [], _∷_}
 use lib.ListN.{length, getD, set, replicate}
 use lib.Dec.{ltb, leb, eqb}
-use Rattle.mcode.specs.Word.{pick, and, wrap, byteOf, withByte, oneOf, twoOf, threeOf, paired, highOf, lowOf, doubleOf}
+use Rattle.mcode.specs.Word.{pick, and, or, wrap, bit, byteOf, withByte, oneOf, twoOf, threeOf, paired, highOf, lowOf, doubleOf}
 use Rattle.mcode.specs.Image.{moduleOf, basesOf, codeByte, entryOf, margin}
 use Rattle.mcode.specs.Depths.{frontOf, markAt, marked}
-use Rattle.mcode.specs.Machine.{State, state, Outcome, go, halt, address, position, machine, at, framed, depth, top, second, third, fourth, on, take1, take2, take3, put, replace1, replace2, replace3, putPair, pairFor1, pairFor4}
+use Rattle.mcode.specs.Machine.{State, state, Live, live, OutcomeOf, Outcome, go, halt, leaving, address, position, machine, at, framed, depth, top, second, third, fourth, on, take1, take2, take3, put, replace1, replace2, replace3, putPair, pairFor1, pairFor4}
 use Rattle.mcode.specs.declared.Address.{Address}
 use Rattle.mcode.specs.declared.Position.{Position}
 use Rattle.mcode.specs.declared.Registers.{Registers}
@@ -120,7 +120,7 @@ returned lent x =
     (pick (ltb t 0x8000) (backTo lent (r .unit) t x)
     (backTo lent (unitBased (lent .program) (wordIn x l)) (t - 0x8000) x)))
 
--- ---- 256 b, TRANSFER
+-- ---- transfers: 256 b, TRANSFER, and those that lines make
 
 -- "words q.. are G, L, position, M, s, v", with k = word s-1
 pub record Process : Type 0 where
@@ -207,16 +207,23 @@ restoredMachine lent b q store r old =
     })
     (restored store (r .k) (r .s - 1 - r .k) (replicate 16 0))
 
--- "reading the store as before the instruction", "otherwise 35"
-unfoldable pub switched : Lent → ℕ → Position → ℕ → ℕ → State → Outcome
-switched lent b next c q x =
-    let m = x .machine in
-    let r = processAt (x .store) q in
-    pick (isProcess lent (length (x .store)) q r)
-    (storesTo x
-    (restoredMachine lent b q (x .store) r (m .registers))
-    (savedStore (getD (basesOf (lent .program)) (m .registers .unit) 0) next c x (depth m - 2)))
-    (halt BadProcess)
+-- the process at q can go on
+abbrev pub isTarget : Lent → ℕ → State → Bool
+isTarget lent q x = isProcess lent (length (x .store)) q (processAt (x .store) q)
+
+-- the change to the process at q, "reading the store as before the instruction". The old one goes on at position `next`; n words of its
+-- stack are saved, and it goes to word c
+unfoldable pub changed : Lent → ℕ → Position → ℕ → ℕ → ℕ → State → State
+changed lent b next n c q x =
+    let r = x .machine .registers in
+    state
+    (restoredMachine lent b q (x .store) (processAt (x .store) q) r)
+    (savedStore (getD (basesOf (lent .program)) (r .unit) 0) next c x n)
+    (x .outputs)
+
+-- "otherwise 35"
+unfoldable pub switched : Lent → ℕ → Position → ℕ → ℕ → ℕ → State → Outcome
+switched lent b next n c q x = pick (isTarget lent q x) (go (changed lent b next n c q x)) (halt BadProcess)
 
 -- "a and c are addresses (32, a first); q = word a. If q = P, word c becomes P and no more."
 unfoldable pub transferred : Lent → ℕ → Position → State → Outcome
@@ -228,7 +235,7 @@ transferred lent b next x =
     inStore x (top m)
     (inStore x c
     (pick (eqb q p) (storesTo x (take2 next m) (set (x .store) c p))
-    (switched lent b next c q x)))
+    (switched lent b next (depth m - 2) c q x)))
 
 -- ---- 262 and 260, around a function call inside an expression
 
@@ -324,11 +331,43 @@ performOf lent (Double op) q x =
 performOf lent Save q x = stackSaved q x
 performOf lent Fetch q x = stackFetched lent q x
 
--- one step
-unfoldable pub stepOf : Lent → State → Outcome
-stepOf lent x =
+-- the instruction where the machine stands
+unfoldable pub instructionOf : Lent → State → Outcome
+instructionOf lent x =
     let r = x .machine .registers in
     let m = moduleOf (lent .program) (r .unit) in
     let p = r .pc .0 in
     let d = decodeOf (codeByte (lent .image) m p) (λ k. codeByte (lent .image) m (p + k)) r (basesOf (lent .program)) in
     performOf lent (d .action) (position (p + d .size)) x
+
+-- ---- lines
+
+-- line i is "in the requests, not in M and not in store word 3"
+abbrev pub isOpen : Live → ℕ → Bool
+isOpen x i = and (bit (x .requests) i) (not (or (bit (x .state .machine .registers .mask) i) (bit (wordIn (x .state) 3) i)))
+
+-- the highest of the first k lines that passes the test, 0 where none does: "Lines are 8 to 15"
+unfoldable pub highest : (ℕ → Bool) → ℕ → ℕ
+highest f zero = 0
+highest f (suc k) = pick (f (8 + k)) (8 + k) (highest f k)
+
+-- the line that is taken before the next instruction, or 0
+abbrev pub lineOf : Live → ℕ
+lineOf x = highest (isOpen x) 8
+
+-- "It makes a transfer with the mask changed, the target in word 2i, the old process to word 2i + 1, the saved position being the
+-- instruction about to run and the whole stack saved." "A target equal to P only writes word 2i + 1."
+unfoldable pub takenLine : Lent → ℕ → State → Outcome
+takenLine lent i x =
+    let r = x .machine .registers in
+    let q = wordIn x (2 * i) in
+    pick (eqb q (r .p .0)) (storesTo x (x .machine) (set (x .store) (2 * i + 1) (r .p .0)))
+    (switched lent 1 (r .pc) (r .depth) (2 * i + 1) q x)
+
+-- one step: "Before an instruction, the highest line is taken." "It counts as a step and clears its bit." "A failed transfer is trap 35
+-- with the bit kept."
+unfoldable pub stepOf : Lent → Live → OutcomeOf Live
+stepOf lent x =
+    let i = lineOf x in
+    pick (eqb i 0) (leaving (x .requests) (instructionOf lent (x .state)))
+    (leaving (x .requests - 2 ^ i) (takenLine lent i (x .state)))

@@ -5,7 +5,7 @@ use libc::STDOUT_FILENO;
 pub fn put_usage(fd: i32) {
     io::write_all(
         fd,
-        b"usage: reading [--steps N] [--store W] [--input CH=VALUE].. FILE..\n",
+        b"usage: reading [--steps N] [--store W] [--input CH=VALUE].. [--requests WORD] [--line I].. [--after N] FILE..\n",
     );
 }
 
@@ -21,6 +21,15 @@ fn put_options() {
     put(b"  --store W         a store of W words, 0 to 65536 (default 4096)\n");
     put(b"  --input CH=VALUE  input channel CH, 0 to 15, holds VALUE, 0 to 65535 (default 0);\n");
     put(b"                    may be given again, a later one wins\n");
+    put(b"  --requests WORD   the word of requests that the run gets, 0 to 65535 (default 0)\n");
+    put(
+        b"  --line I          line I, 8 to 15, is requested: bit I of that word; may be given again,\n",
+    );
+    put(b"                    the bits of all --requests and --line are united\n");
+    put(
+        b"  --after N         the requests come after N steps, 0 to 4294967295 (default 0): before the\n",
+    );
+    put(b"                    program has set word 2I, line I stops the run with 35\n");
     put(b"  -h, --help        this text\n\n");
     put(
         b"A value may also stand behind =, as --steps=5. Options hold for all files, wherever they stand.\n",
@@ -38,11 +47,12 @@ fn put_lines() {
         b"the steps done, and where it stands: module, position in the module's code (pc), words on the\n",
     );
     put(
-        b"operand stack (depth); then the outputs of channels 0 to 15. A refused image prints one line,\n",
+        b"operand stack (depth); then the outputs of channels 0 to 15. With requests a third line shows\n",
     );
     put(
-        b"refused and its number; standard error says it in words, with the place where it is known.\n\n",
+        b"what is left of them. A refused image prints one line, refused and its number; standard error\n",
     );
+    put(b"says it in words, with the place where it is known.\n\n");
     put(b"    reading examples/whole-reading.img\n");
     put(b"    stop 31 code 0 steps 3 module 0 pc 3 depth 0\n");
     put(b"    0 0 7 0 0 0 0 0 0 0 0 0 0 0 0 0\n\n");

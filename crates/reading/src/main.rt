@@ -1,5 +1,5 @@
-// Reads images with a chosen budget, store size and inputs, and prints the reading of each:
-// reading [--steps N] [--store W] [--input CH=VALUE].. FILE..
+// Reads images with a chosen budget, store size, inputs and requests, and prints the reading of each:
+// reading [--steps N] [--store W] [--input CH=VALUE].. [--requests WORD] [--line I].. [--after N] FILE..
 // An option's value may also stand in its own argument, as --steps=N. What is wrong is said on standard error, a line for each.
 mod help;
 
@@ -7,10 +7,13 @@ use console::arguments;
 use console::fault;
 use console::files;
 use console::files::Filled;
+use console::number::sum;
 use console::options;
 use console::options::Argument;
 use console::options::Options;
 use console::print;
+use engine::run::Ran;
+use engine::run::run;
 use in_place::reading::reading;
 use libc::STDOUT_FILENO;
 use mcode::Ending;
@@ -26,6 +29,73 @@ fn store_words(chosen: usize, most: usize) -> usize
     most
 }
 
+// How a reading ended, and what is left of the requests.
+struct Known {
+    ran: Ran,
+    left: u16,
+}
+
+// The run with requests, behind the one without them, which answered `ran`; where they do not come, the requests are as given.
+fn requested(
+    ran: Ran,
+    image: &[u8],
+    map: &[u32],
+    store: &mut [u16],
+    outputs: &mut [u16],
+    inputs: &[u16],
+    options: Options,
+) -> Known {
+    let quiet = options::quiet_steps(options);
+    let ending = ran.ending;
+    if !options::comes_to_requests(options, ending) {
+        return Known {
+            ran,
+            left: options.requests,
+        };
+    }
+    let machine = ran.machine;
+    let mut next = run(
+        machine,
+        image,
+        map,
+        store,
+        outputs,
+        inputs,
+        options.steps - quiet,
+        options.requests,
+    );
+    next.count = sum(quiet, next.count);
+    let left = next.requests;
+    Known { ran: next, left }
+}
+
+// Load, start, and one run; with requests one more, in which they come.
+fn read(
+    image: &[u8],
+    map: &mut [u32],
+    store: &mut [u16],
+    outputs: &mut [u16],
+    inputs: &[u16],
+    options: Options,
+) -> Known {
+    let ran = reading(
+        image,
+        map,
+        store,
+        outputs,
+        inputs,
+        options::quiet_steps(options),
+    );
+    requested(ran, image, map, store, outputs, inputs, options)
+}
+
+// With requests a third line has what is left of them.
+fn put_left(options: Options, left: u16) {
+    if options.requests != 0 {
+        print::requests_left(left);
+    }
+}
+
 // The reading of an image.
 fn put_reading(
     name: &[u8],
@@ -37,14 +107,8 @@ fn put_reading(
     let mut outputs = [0u16; 16];
     let inputs = options.inputs;
     let w = store_words(options.store, store.len());
-    let ran = reading(
-        image,
-        map,
-        &mut store[..w],
-        &mut outputs,
-        &inputs,
-        options.steps,
-    );
+    let all = read(image, map, &mut store[..w], &mut outputs, &inputs, options);
+    let ran = all.ran;
     let ending = ran.ending;
     match ending {
         Ending::Refused(number) => {
@@ -55,6 +119,7 @@ fn put_reading(
         Ending::Stopped(stop) => {
             let machine = ran.machine;
             print::reading(stop, ran.count, machine, outputs);
+            put_left(options, all.left);
         }
     }
 }

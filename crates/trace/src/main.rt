@@ -1,5 +1,5 @@
 // trace: runs images one step at a time and shows what each step does.
-// trace [--steps N] [--store W] [--input CH=VALUE].. [--limit L] FILE..
+// trace [--steps N] [--store W] [--input CH=VALUE].. [--requests WORD] [--line I].. [--after N] [--limit L] FILE..
 // An option's value may also stand in its own argument, as --steps=N.
 mod arguments;
 mod help;
@@ -11,6 +11,7 @@ use crate::steps::traced;
 use console::fault;
 use console::files::Filled;
 use console::files::contents;
+use console::number::sum;
 use console::options;
 use console::options::Argument;
 use console::options::Options;
@@ -19,6 +20,7 @@ use console::print::line_end;
 use console::print::reading;
 use console::print::refusal;
 use console::print::refused_as;
+use console::print::requests_left;
 use console::words;
 use engine::run::Ran;
 use libc::STDERR_FILENO;
@@ -29,6 +31,7 @@ use listing::block::text;
 use loader::start::start;
 use mcode::Ending;
 use mcode::Machine;
+use mcode::Program;
 ghost use Prim.Native.Nat.{_≤_};
 
 // The words of the store, of which there are `most`.
@@ -79,7 +82,67 @@ fn put_end(ran: Ran, outputs: [u16; 16]) {
     }
 }
 
-// The steps from a started machine, over a store whose words `before` has too.
+// With requests a third line has what is left of them.
+fn put_left(options: Options, left: u16) {
+    if options.requests != 0 {
+        requests_left(left);
+    }
+}
+
+// How a trace ended, and what is left of the requests.
+struct Traced {
+    ran: Ran,
+    left: u16,
+}
+
+// The steps with requests, behind those without them, which `ran` made; where they do not come, the requests are as given.
+fn requested(
+    ran: Ran,
+    image: &[u8],
+    map: &[u32],
+    store: &mut [u16],
+    outputs: &mut [u16],
+    inputs: &[u16],
+    options: Options,
+    program: Program,
+    limit: u32,
+    before: &mut [u16],
+    last: &mut [u16],
+    out: &mut Block,
+    used: &mut usize,
+) -> Traced {
+    let quiet = options::quiet_steps(options);
+    let ending = ran.ending;
+    if !options::comes_to_requests(options, ending) {
+        return Traced {
+            ran,
+            left: options.requests,
+        };
+    }
+    let machine = ran.machine;
+    let mut next = traced(
+        machine,
+        image,
+        map,
+        store,
+        outputs,
+        inputs,
+        options.steps - quiet,
+        options.requests,
+        program,
+        limit,
+        quiet,
+        before,
+        last,
+        out,
+        used,
+    );
+    next.count = sum(quiet, next.count);
+    let left = next.requests;
+    Traced { ran: next, left }
+}
+
+// The steps from a started machine, over a store whose words `before` has too: first those without requests, then those with them.
 fn put_steps(
     machine: Machine,
     image: &[u8],
@@ -87,13 +150,14 @@ fn put_steps(
     store: &mut [u16],
     before: &mut [u16],
     inputs: [u16; 16],
-    n: u32,
+    options: Options,
     limit: u32,
     out: &mut Block,
     used: &mut usize,
 ) {
     let parsed = image::read_image(image);
     let program = parsed.program;
+    let channels: &[u16] = &inputs;
     let mut outputs = [0u16; 16];
     let mut last = [0u16; 16];
     show::put_columns(out, used);
@@ -103,8 +167,25 @@ fn put_steps(
         map,
         store,
         &mut outputs,
-        &inputs,
-        n,
+        channels,
+        options::quiet_steps(options),
+        0,
+        program,
+        limit,
+        0,
+        before,
+        &mut last,
+        out,
+        used,
+    );
+    let all = requested(
+        ran,
+        image,
+        map,
+        store,
+        &mut outputs,
+        channels,
+        options,
         program,
         limit,
         before,
@@ -113,7 +194,9 @@ fn put_steps(
         used,
     );
     if flush(out, used) {
-        put_end(ran, outputs);
+        let end = all.ran;
+        put_end(end, outputs);
+        put_left(options, all.left);
     }
 }
 
@@ -143,7 +226,7 @@ fn put_run(
         store,
         before,
         inputs,
-        options.steps,
+        options,
         limit,
         out,
         used,

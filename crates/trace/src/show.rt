@@ -1,4 +1,5 @@
-// What a step shows: its number, module, position, instruction, the operand stack before and after it, and what it changed.
+// What a step shows: its number, module, position, instruction or line, the operand stack before and after it, and what it changed.
+use control::lines::line_of;
 use engine::run::Ran;
 use listing::block::Block;
 use listing::block::text;
@@ -91,15 +92,15 @@ fn put_store(out: &mut Block, used: &mut usize, before: &mut [u16], store: &[u16
 }
 
 // An output that changed, at the margin and with the step that changed it.
-fn put_output(out: &mut Block, used: &mut usize, i: usize, before: u16, after: u16, step: u32) {
+fn put_output(out: &mut Block, used: &mut usize, i: usize, before: u16, after: u16, step: u64) {
     named(out, used, b"output ", i as u64);
     put_change(out, used, before, after);
-    named(out, used, b" (step ", step as u64);
+    named(out, used, b" (step ", step);
     text(out, used, b")\n");
 }
 
 // The outputs that changed. Afterwards `last` holds them.
-fn put_outputs(out: &mut Block, used: &mut usize, last: &mut [u16], outputs: &[u16], step: u32) {
+fn put_outputs(out: &mut Block, used: &mut usize, last: &mut [u16], outputs: &[u16], step: u64) {
     let mut i = changed(last, outputs, 0);
     while i < outputs.len() {
         put_output(out, used, i, word_at(last, i), outputs[i], step);
@@ -108,8 +109,8 @@ fn put_outputs(out: &mut Block, used: &mut usize, last: &mut [u16], outputs: &[u
     }
 }
 
-// Module, position and instruction. One that is wider than its column, as LID 65535 65535, has one blank behind it.
-fn put_place(
+// The instruction. One that is wider than its column, as LID 65535 65535, has one blank behind it.
+fn put_instruction(
     out: &mut Block,
     used: &mut usize,
     image: &[u8],
@@ -117,9 +118,6 @@ fn put_place(
     registers: Registers,
 ) {
     let unit = registers.unit as usize;
-    right(out, used, registers.unit as u64, 8);
-    right(out, used, registers.pc.0 as u64, 7);
-    blanks(out, used, 2);
     if unit < 32 {
         let m = program.modules[unit];
         let i = instruction_at(image, m, registers.pc.0);
@@ -129,17 +127,57 @@ fn put_place(
     }
 }
 
-// The instruction at which the run stops is no step: it changes nothing.
+// The line that is taken in the place of the instruction.
+fn put_line(out: &mut Block, used: &mut usize, line: usize) {
+    named(out, used, b"line ", line as u64);
+    if line < 10 {
+        blanks(out, used, 1);
+    }
+    blanks(out, used, 7);
+}
+
+// Module, position, and the instruction or the line.
+fn put_place(
+    out: &mut Block,
+    used: &mut usize,
+    image: &[u8],
+    program: Program,
+    registers: Registers,
+    line: usize,
+) {
+    right(out, used, registers.unit as u64, 8);
+    right(out, used, registers.pc.0 as u64, 7);
+    blanks(out, used, 2);
+    if line == 0 {
+        put_instruction(out, used, image, program, registers);
+        return;
+    }
+    put_line(out, used, line);
+}
+
+// The process that a line left, and the one that it entered.
+fn put_processes(out: &mut Block, used: &mut usize, left: u16, entered: u16) {
+    named(out, used, b"        process ", left as u64);
+    if left == entered {
+        text(out, used, b" stays\n");
+        return;
+    }
+    named(out, used, b" left, ", entered as u64);
+    text(out, used, b" entered\n");
+}
+
+// The instruction at which the run stops, or the line, is no step: it changes nothing.
 fn put_stopping(
     out: &mut Block,
     used: &mut usize,
     image: &[u8],
     program: Program,
     machine: Machine,
+    line: usize,
 ) {
     let registers = machine.registers;
     text(out, used, b"     -");
-    put_place(out, used, image, program, registers);
+    put_place(out, used, image, program, registers, line);
     put_stack(out, used, machine);
     text(out, used, b"\n");
 }
@@ -151,20 +189,31 @@ fn put_done(
     after: Machine,
     program: Program,
     image: &[u8],
-    step: u32,
+    step: u64,
+    line: usize,
     words: &mut [u16],
     store: &[u16],
 ) {
     let registers = before.registers;
     let next = after.registers;
-    right(out, used, step as u64, 6);
-    put_place(out, used, image, program, registers);
+    right(out, used, step, 6);
+    put_place(out, used, image, program, registers, line);
     put_stack(out, used, before);
     text(out, used, b" -> ");
     put_stack(out, used, after);
     text(out, used, b"\n");
+    if line != 0 {
+        put_processes(out, used, registers.p.0, next.p.0);
+    }
     put_registers(out, used, registers, next);
     put_store(out, used, words, store);
+}
+
+// The line that is taken before the next instruction, or 0, over the words of the store.
+fn next_line(ran: Ran, words: &[u16]) -> usize {
+    let machine = ran.machine;
+    let registers = machine.registers;
+    line_of(ran.requests, registers.mask, word_at(words, 3))
 }
 
 // Beyond the limit no step is listed.
@@ -176,15 +225,17 @@ fn put_listed(
     program: Program,
     image: &[u8],
     limit: u32,
+    step: u64,
     words: &mut [u16],
     store: &[u16],
 ) {
-    if limit < next.count {
+    if (limit as u64) < step {
         return;
     }
     let before = ran.machine;
+    let line = next_line(ran, words);
     if next.count == ran.count {
-        put_stopping(out, used, image, program, before);
+        put_stopping(out, used, image, program, before, line);
         return;
     }
     let after = next.machine;
@@ -195,13 +246,14 @@ fn put_listed(
         after,
         program,
         image,
-        next.count,
+        step,
+        line,
         words,
         store,
     );
 }
 
-// A turn of the run, from `ran` to `next`.
+// A turn of the run, from `ran` to `next`; `earlier` steps were made before the run.
 pub fn put_step(
     out: &mut Block,
     used: &mut usize,
@@ -210,11 +262,24 @@ pub fn put_step(
     program: Program,
     image: &[u8],
     limit: u32,
+    earlier: u32,
     words: &mut [u16],
     store: &[u16],
     last: &mut [u16],
     outputs: &[u16],
 ) {
-    put_listed(out, used, ran, next, program, image, limit, words, store);
-    put_outputs(out, used, last, outputs, next.count);
+    let step = earlier as u64 + next.count as u64;
+    put_listed(
+        out,
+        used,
+        ran,
+        next,
+        program,
+        image,
+        limit,
+        step,
+        words,
+        store,
+    );
+    put_outputs(out, used, last, outputs, step);
 }

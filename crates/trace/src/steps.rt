@@ -1,30 +1,19 @@
 // The steps of a run, one at a time.
 use crate::show::put_step;
+use console::options::is_spent;
 use engine::run::Ran;
 use engine::run::run;
 use listing::block::Block;
-use mcode::Ending;
 use mcode::Machine;
 use mcode::Program;
-use mcode::Stop;
 ghost use mathlib.Core.Path.{_≡_};
 ghost use Prim.Native.Nat.{_+_, _≤_};
-ghost use Rattle.mcode.specs.Machine.{state};
+ghost use Rattle.mcode.specs.Machine.{state, live};
 ghost use Rattle.mcode.specs.Run.{runOf};
 ghost use Rattle.mcode.specs.Demands.{joined};
 ghost use Rattle.engine.specs.Ran.{answered};
 
-fn is_spent(ending: Ending) -> bool {
-    match ending {
-        Ending::Refused(_) => false,
-        Ending::Stopped(stop) => match stop {
-            Stop::Spent => true,
-            _ => false,
-        },
-    }
-}
-
-// Up to m steps more; their counts add.
+// Up to m steps more, with the requests that are left; their counts add.
 fn more(
     ran: Ran,
     image: &[u8],
@@ -35,16 +24,17 @@ fn more(
     m: u32,
 ) -> Ran
     requires { ⌜ ran .count + m ≤ 4294967295 ⌝ }
-    ensures { λ r. ⌜ answered r (now (store .exit)) (now (outputs .exit)) ≡ joined (answered ran (now (store .entry)) (now (outputs .entry))) (runOf (now (image .entry)) (now (map .entry)) (now (inputs .entry)) m (state (ran .machine) (now (store .entry)) (now (outputs .entry)))) ⌝ }
+    ensures { λ r. ⌜ answered r (now (store .exit)) (now (outputs .exit)) ≡ joined (answered ran (now (store .entry)) (now (outputs .entry))) (runOf (now (image .entry)) (now (map .entry)) (now (inputs .entry)) m (live (state (ran .machine) (now (store .entry)) (now (outputs .entry))) (ran .requests))) ⌝ }
 {
     let machine = ran.machine;
-    let next = run(machine, image, map, store, outputs, inputs, m);
+    let next = run(machine, image, map, store, outputs, inputs, m, ran.requests);
     let ending = next.ending;
     let after = next.machine;
     Ran {
         ending,
         count: ran.count + next.count,
         machine: after,
+        requests: next.requests,
     }
 }
 
@@ -54,7 +44,7 @@ struct Done {
     done: u32,
 }
 
-// Up to n steps, each of which is shown.
+// Up to n steps, each of which is shown; `earlier` steps were made before.
 fn turns(
     machine: Machine,
     image: &[u8],
@@ -63,16 +53,18 @@ fn turns(
     outputs: &mut [u16],
     inputs: &[u16],
     n: u32,
+    requests: u16,
     program: Program,
     limit: u32,
+    earlier: u32,
     before: &mut [u16],
     last: &mut [u16],
     out: &mut Block,
     used: &mut usize,
 ) -> Done
-    ensures { λ r. ⌜ (answered (r .ran) (now (store .exit)) (now (outputs .exit)) ≡ runOf (now (image .entry)) (now (map .entry)) (now (inputs .entry)) (r .done) (state machine (now (store .entry)) (now (outputs .entry)))) × (r .done ≤ n) ⌝ }
+    ensures { λ r. ⌜ (answered (r .ran) (now (store .exit)) (now (outputs .exit)) ≡ runOf (now (image .entry)) (now (map .entry)) (now (inputs .entry)) (r .done) (live (state machine (now (store .entry)) (now (outputs .entry))) requests)) × (r .done ≤ n) ⌝ }
 {
-    let mut ran = run(machine, image, map, store, outputs, inputs, 0);
+    let mut ran = run(machine, image, map, store, outputs, inputs, 0, requests);
     let mut done = 0u32;
     while done < n {
         let next = more(ran, image, map, store, outputs, inputs, 1);
@@ -84,6 +76,7 @@ fn turns(
             program,
             image,
             limit,
+            earlier,
             before,
             store,
             last,
@@ -109,14 +102,16 @@ pub fn traced(
     outputs: &mut [u16],
     inputs: &[u16],
     n: u32,
+    requests: u16,
     program: Program,
     limit: u32,
+    earlier: u32,
     before: &mut [u16],
     last: &mut [u16],
     out: &mut Block,
     used: &mut usize,
 ) -> Ran
-    ensures { λ r. ⌜ answered r (now (store .exit)) (now (outputs .exit)) ≡ runOf (now (image .entry)) (now (map .entry)) (now (inputs .entry)) n (state machine (now (store .entry)) (now (outputs .entry))) ⌝ }
+    ensures { λ r. ⌜ answered r (now (store .exit)) (now (outputs .exit)) ≡ runOf (now (image .entry)) (now (map .entry)) (now (inputs .entry)) n (live (state machine (now (store .entry)) (now (outputs .entry))) requests) ⌝ }
 {
     let t = turns(
         machine,
@@ -126,8 +121,10 @@ pub fn traced(
         outputs,
         inputs,
         n,
+        requests,
         program,
         limit,
+        earlier,
         before,
         last,
         out,

@@ -28,10 +28,11 @@ pub struct Case {
     pub outputs: [u16; 32],
 }
 
-// A run, with the inputs and the machine that it is handed.
+// A run, with the requests, the inputs and the machine that it is handed.
 pub struct Run {
     pub input: Input,
     pub budget: u32,
+    pub requests: u16,
     pub ins: usize,
     pub inputs: [u16; 32],
     pub machine: Machine,
@@ -165,12 +166,28 @@ pub fn read_run(
     let mut run = before;
     run.input = budget;
     run.budget = budget.number;
+    run = read_requests(buffer, run);
     run = read_inputs(buffer, run);
     run = read_machine(buffer, run);
     let patches = run.input;
     let marked = patch_map(buffer, patches, map);
     let patched = patch_store(buffer, marked, store);
     run.input = patched;
+    run
+}
+
+// 1 and the word of requests, or 0 where it is what the run before returned.
+fn read_requests(buffer: &mut [u8; 4096], before: Run) -> Run {
+    let from = before.input;
+    let own = next_word(buffer, from);
+    let mut run = before;
+    run.input = own;
+    if own.number == 0 {
+        return run;
+    }
+    let word = next_word(buffer, own);
+    run.input = word;
+    run.requests = low_word(word.number);
     run
 }
 

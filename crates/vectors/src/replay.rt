@@ -123,6 +123,7 @@ fn print_ran(text: &mut [u8; 4096], at: usize, ran: Ran, outputs: &[u16], store:
     let mut next = put_named(text, at, b"run", number_of(ending) as u64);
     next = put_named(text, next, b" code", code_of(ending) as u64);
     next = put_named(text, next, b" count", ran.count as u64);
+    next = put_named(text, next, b" requests", ran.requests as u64);
     next = print_machine(text, next, machine);
     next = put_text(text, next, b" outputs");
     next = put_words(text, next, outputs);
@@ -152,13 +153,14 @@ fn run_part(
                 &mut outputs[0..outs],
                 ins,
                 run.budget,
+                run.requests,
             );
         }
     }
-    engine::run::run(machine, image, map, store, outputs, ins, 0)
+    engine::run::run(machine, image, map, store, outputs, ins, 0, run.requests)
 }
 
-// The last run that was read, with the machine after it, and how full the text's buffer is.
+// The last run that was read, with the machine and the requests after it, and how full the text's buffer is.
 struct Progress {
     run: Run,
     out: usize,
@@ -195,6 +197,7 @@ fn replay_run(
     );
     let machine = ran.machine;
     run.machine = machine;
+    run.requests = ran.requests;
     let sums = sums_of_words(words_of(store, case.store));
     let out = print_ran(text, before.out, ran, words_of(outputs, case.outs), sums);
     Progress { run, out }
@@ -252,6 +255,7 @@ fn begin(
     let run = Run {
         input,
         budget: 0,
+        requests: 0,
         ins: 0,
         inputs: [0u16; 32],
         machine,

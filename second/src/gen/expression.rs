@@ -8,7 +8,7 @@ use super::saved::{
 };
 use super::state::{set_saved, World};
 use super::{add_procedure, any_shape, case_of, plain_run, positions_in_a_row, Scale};
-use crate::api::{self, RunAnswer};
+use crate::api::{self, Buffers, RunAnswer};
 use crate::assemble::{encode, Source};
 use crate::case::{Case, CaseRun};
 use crate::depths::first_marks;
@@ -197,15 +197,14 @@ fn make(
     }
     let machine = run.machine.unwrap_or(machine);
     let (mut outputs, inputs) = ([0; 16], [0; 16]);
-    api::run(
-        machine,
+    let buffers = Buffers {
         image,
         map,
         store,
-        &mut outputs,
-        &inputs,
-        run.budget,
-    )
+        outputs: &mut outputs,
+        inputs: &inputs,
+    };
+    api::run(machine, buffers, 0, run.budget)
 }
 
 /// Alters what a LODFW will find, or nothing; a count that is wrong is set right

@@ -3,6 +3,10 @@
 mod code;
 mod expression;
 mod fault;
+mod hostile;
+mod interrupted;
+mod lines;
+mod requests;
 pub mod rng;
 mod saved;
 mod state;
@@ -72,7 +76,7 @@ pub const SMALL: Scale = Scale {
     full_programs: 60,
     program_runs: 3,
     state_opcodes: 6,
-    state_runs: 6,
+    state_runs: 7,
     alterations: 2,
     machine_runs: 4,
     large_parts: 20,
@@ -81,7 +85,7 @@ pub const SMALL: Scale = Scale {
 };
 
 /// The cases of a round, each of a kind of its own or one of several.
-pub const ROUND: u64 = 41;
+pub const ROUND: u64 = 47;
 
 /// One case of a seed.
 pub fn case(scale: &Scale, seed: u64, index: u64) -> Case {
@@ -117,10 +121,45 @@ pub fn case(scale: &Scale, seed: u64, index: u64) -> Case {
         38 => expression::flawed_entries_case(rng, scale, round as usize),
         39 => expression::unfit_marks_case(rng, round as usize),
         40 => unsigned::turn_case(rng, scale, round as usize),
+        41 => lines::fates_case(rng, scale, round as usize),
+        42 => lines::collisions_case(rng, scale, round as usize),
+        kind @ 43..=45 => line_case(rng, scale, kind, round as usize),
+        46 => hostile::hostile_case(rng, scale),
         _ => sizes_case(rng, scale),
     };
+    // The others are made run by run.
+    if matches!(index % ROUND, 0..=30 | 32..=35) {
+        give_requests(rng, &mut case.runs);
+    }
     keep_inputs(rng, scale, &mut case.runs);
     case
+}
+
+/// The cases of A.7 that come in turn.
+fn line_case(rng: &mut Rng, scale: &Scale, kind: u64, round: usize) -> Case {
+    match (kind, round % 3) {
+        (43, 0) => requests::both_case(rng, scale),
+        (43, 1) => requests::failing_case(rng, scale),
+        (43, _) => requests::over_case(rng, scale, round / 3),
+        (44, 0) => requests::opened_case(rng, scale),
+        (44, _) => lines::places_case(rng, scale),
+        (_, 0) => requests::refused_case(rng, round / 3),
+        _ => interrupted::interrupted_case(rng, round / 3),
+    }
+}
+
+/// Gives a few runs of other kinds requests. What is left of them is handed on to
+/// the next run at most.
+fn give_requests(rng: &mut Rng, runs: &mut [CaseRun]) {
+    for i in 0..runs.len() {
+        if runs[i].requests.is_none() && rng.once_in(24) {
+            runs[i].requests = Some(hostile::any_requests(rng));
+            let behind = i + 1 + usize::from(rng.once_in(4));
+            if let Some(run) = runs.get_mut(behind) {
+                run.requests = Some(0);
+            }
+        }
+    }
 }
 
 /// Gives most runs the inputs of the run before, if there are 16.
@@ -242,6 +281,9 @@ fn program_case(rng: &mut Rng, scale: &Scale) -> Case {
     let mut case = case_of(rng, world.image.clone(), world.words);
     case.runs = plain_runs(rng, scale);
     case.runs[0].store_patches = world.processes(rng);
+    if rng.once_in(4) {
+        hostile::give_lines(rng, &mut case.runs);
+    }
     case
 }
 

@@ -7,12 +7,12 @@ use super::unsigned::any_operands;
 use crate::api;
 use crate::assemble::{encode, Source};
 use crate::case::CaseRun;
+use crate::collisions::{record, saved_stack};
 use crate::image::{parse, Program};
 use crate::machine::Machine;
 use crate::mark::{Mark, Saved, MOST};
 use crate::opcode::{self, *};
 use crate::pair::first_address;
-use crate::transfers::{record, saved_stack};
 use std::ops::Range;
 
 /// An accepted program and the length of its store.
@@ -30,7 +30,7 @@ pub struct Place {
     pub module: u8,
     pub position: u16,
     pub mark: Mark,
-    opcode: u8,
+    pub opcode: u8,
 }
 
 impl World {
@@ -40,28 +40,34 @@ impl World {
         World::of(rng, shape, &modules)
     }
 
-    /// A program of this shape. Panics if load does not accept it: the
-    /// generator would be wrong.
+    /// A program of this shape.
     pub fn of(rng: &mut Rng, shape: &Shape, modules: &[Source]) -> World {
+        let mut world = World::least(modules);
+        let least = world.words;
+        world.words = match rng.below(8) {
+            // A careful program wants room for its frames.
+            1.. if shape.careful && shape.opcodes.is_empty() => least + rng.within(500, 4000),
+            0 | 1 => least,
+            2..=4 => least + rng.below(80),
+            5 if rng.once_in(shape.large_stores) => 65_535,
+            _ => least + rng.within(200, 2000),
+        };
+        world
+    }
+
+    /// A program with the least store that start accepts. Panics if load does not
+    /// accept it: the generator would be wrong.
+    pub fn least(modules: &[Source]) -> World {
         let image = encode(modules);
         let mut map = vec![0; image.len()];
         let number = api::load(&image, &mut map).number;
         assert_eq!(number, 0, "the generator wrote a program that load refuses");
         let program = parse(&image).expect("load has parsed it");
         let places = places(&program, &image, &map);
-        let least = program.z as usize + Machine::LEAST_BEYOND_Z;
-        let words = match rng.below(8) {
-            // A careful program wants room for its frames.
-            1.. if shape.careful && shape.opcodes.is_empty() => least + rng.within(500, 4000),
-            0 => least,
-            1 | 2 => least + rng.below(80),
-            3 if rng.once_in(shape.large_stores) => 65_535,
-            _ => least + rng.within(200, 2000),
-        };
         World {
             image,
             map,
-            words,
+            words: program.z as usize + Machine::LEAST_BEYOND_Z,
             program,
             places,
         }
@@ -74,7 +80,7 @@ impl World {
         let beyond = |place: &Place| self.fixed_pair(place).is_some_and(|first| first >= least);
         let place = self.place_where(rng, |place| place.opcode == opcode && beyond(place));
         if let Some(first) = place.and_then(|place| self.fixed_pair(&place)) {
-            self.words = first + rng.pick(&[0, 1, 1, 1, 1, 2]);
+            self.words = first + rng.pick(&[0, 0, 1, 1, 1, 2]);
         }
     }
 
@@ -93,9 +99,14 @@ impl World {
         .map(usize::from)
     }
 
+    /// "Z is the word after the last module."
+    pub fn z(&self) -> usize {
+        self.program.z as usize
+    }
+
     /// The least store that start accepts.
     pub fn least_words(&self) -> usize {
-        self.program.z as usize + Machine::LEAST_BEYOND_Z
+        self.z() + Machine::LEAST_BEYOND_Z
     }
 
     /// An entry, a TRAP or any marked position, for another procedure to share.
@@ -130,17 +141,23 @@ impl World {
         (module.code_start + usize::from(place.position), place.mark)
     }
 
-    fn any_place(&self, rng: &mut Rng) -> Place {
+    pub fn any_place(&self, rng: &mut Rng) -> Place {
         rng.pick(&self.places)
     }
 
     /// A place that satisfies the condition, if there is one.
-    fn place_where(&self, rng: &mut Rng, condition: impl Fn(&Place) -> bool) -> Option<Place> {
+    pub fn place_where(&self, rng: &mut Rng, condition: impl Fn(&Place) -> bool) -> Option<Place> {
         let found: Vec<Place> = self.places.iter().copied().filter(condition).collect();
         (!found.is_empty()).then(|| rng.pick(&found))
     }
 
-    fn base(&self, module: u8) -> u16 {
+    /// The code of a place's module from the place on.
+    pub fn code(&self, place: Place) -> &[u8] {
+        let range = self.program.modules[usize::from(place.module)].code_range();
+        &self.image[range][usize::from(place.position)..]
+    }
+
+    pub fn base(&self, module: u8) -> u16 {
         self.program.modules[usize::from(module)].base as u16
     }
 
@@ -203,14 +220,14 @@ impl World {
         }
     }
 
-    fn machine_at(&self, rng: &mut Rng, place: Place) -> Machine {
+    pub fn machine_at(&self, rng: &mut Rng, place: Place) -> Machine {
         let highest = self.words - usize::from(Machine::MARGIN);
         let h = match rng.below(3) {
             0 => rng.within(0, highest),
             _ => highest,
         };
-        let s = match rng.below(2) {
-            0 => h - rng.below(6).min(h),
+        let s = match rng.below(3) {
+            0 | 1 => h - rng.below(6).min(h),
             _ => rng.within(0, h),
         };
         let p = match rng.below(3) {
@@ -220,8 +237,8 @@ impl World {
         };
         let l = match rng.below(8) {
             0 => self.address(rng),
-            1 | 2 => (self.words + rng.below(30)) as u16,
-            3 => h as u16,
+            1..=3 => (self.words + rng.below(30)) as u16,
+            4 => h as u16,
             _ => rng.within(0, h) as u16,
         };
         let mut machine = Machine {
@@ -271,9 +288,9 @@ impl World {
             // The last pair, and the one that the end cuts.
             0 => end - 2,
             1 | 2 => end - 1,
-            3 => rng.pick(&[end, 65_534, 65_535]),
+            3 | 4 => rng.pick(&[end, 65_534, 65_535]),
             // A sum that has wrapped.
-            4 => rng.below(4) as u16,
+            5 => rng.below(4) as u16,
             _ => self.address(rng),
         }
     }
@@ -301,10 +318,10 @@ impl World {
                 set(3, self.operand_address(rng).wrapping_sub(words));
             }
             0o240 => {
-                set(1, rng.below(17) as u16);
+                set(1, channel(rng));
                 set(2, self.operand_address(rng));
             }
-            0o241 => set(2, rng.below(17) as u16),
+            0o241 => set(2, channel(rng)),
             0o245 | 0o305 => {
                 let low = some_word(rng);
                 let high = low.wrapping_add(rng.below(50) as u16);
@@ -322,21 +339,9 @@ impl World {
                 set(1, a);
                 set(2, c);
             }
-            0o273 | 0o274 => set(1, rng.below(3) as u16),
+            0o273 | 0o274 => set(1, rng.pick(&[0, 0, 1, 2])),
             0o330..=0o333 => {
-                let limits = [0x8000, 0x7FFF, 0xFFFF, 1, 0, 2, 0x8001, 180, 0xFF00];
-                let any = (rng.pick(&limits), rng.pick(&limits));
-                let (c, a) = rng.pick(&[
-                    any,
-                    any,
-                    (any.0, 0),
-                    (any.0, 0),
-                    (0x8000, 0xFFFF),
-                    (0x8000, 0xFFFF),
-                    (0x8000, 1),
-                    (0x7FFF, 0x7FFF),
-                    (0x7FFF, 0xFFFF),
-                ]);
+                let (c, a) = signed_operands(rng, opcode);
                 set(1, a);
                 set(2, c);
             }
@@ -346,7 +351,7 @@ impl World {
                 set(1, word);
                 set(2, word.wrapping_add(rng.pick(&[0, 1, 65_535, 0x8000])));
             }
-            0o316 | 0o317 => set(1, rng.pick(&[0x8000, 0x8000, 0x7FFF, 0xFFFF, 0x8001, 5])),
+            0o316 | 0o317 => set(1, rng.pick(&[0x8000, 0x8000, 0x8000, 0x7FFF, 0xFFFF, 5])),
             DADD | DSUB => {
                 let lower = some_double(rng);
                 let any = some_double(rng);
@@ -404,7 +409,7 @@ impl World {
     /// Processes to transfer to, good and bad, and words that collide.
     fn set_transfer(&self, rng: &mut Rng, machine: &mut Machine, run: &mut CaseRun) {
         let last_record = self.words - Machine::RECORD;
-        let saved = saved_stack(machine);
+        let saved = saved_stack(machine, machine.depth - 2);
         if rng.once_in(6) {
             machine.p = near(rng, &saved, 6).min(last_record) as u16;
         }
@@ -449,7 +454,7 @@ impl World {
 
     /// A place to go on at, often one without words, with the most, or where
     /// others are saved.
-    fn place_to_resume(&self, rng: &mut Rng) -> Place {
+    pub fn place_to_resume(&self, rng: &mut Rng) -> Place {
         let place = match rng.below(6) {
             0 | 1 => self.place_where(rng, |place| place.mark.depth == 0),
             2 | 3 => self.place_where(rng, |place| place.mark.depth == MOST),
@@ -461,7 +466,7 @@ impl World {
 
     /// The store words of a good process: its record of six words, then its
     /// stack, which often lies over one of the ranges given.
-    fn process(&self, rng: &mut Rng, q: u16, over: &[&Range<usize>]) -> Vec<(u16, u16)> {
+    pub fn process(&self, rng: &mut Rng, q: u16, over: &[&Range<usize>]) -> Vec<(u16, u16)> {
         let place = self.place_to_resume(rng);
         let highest = self.words - usize::from(Machine::MARGIN);
         let depth = usize::from(place.mark.depth);
@@ -495,7 +500,7 @@ impl World {
     }
 
     /// Breaks one of the conditions of trap 35.
-    fn spoil_process(&self, rng: &mut Rng, q: u16, patches: &mut Vec<(u16, u16)>) {
+    pub fn spoil_process(&self, rng: &mut Rng, q: u16, patches: &mut Vec<(u16, u16)>) {
         let words = self.words as u16;
         let (s, v) = (patches[4].1, patches[5].1);
         let count = patches.len() - 1;
@@ -543,6 +548,31 @@ impl World {
     }
 }
 
+/// Words c and a for a signed operator: often a zero divisor, or a result outside.
+fn signed_operands(rng: &mut Rng, opcode: u8) -> (u16, u16) {
+    const LIMITS: [u16; 9] = [0x8000, 0x7FFF, 0xFFFF, 1, 0, 2, 0x8001, 180, 0xFF00];
+    let (c, a) = (rng.pick(&LIMITS), rng.pick(&LIMITS));
+    let outside = match opcode {
+        0o330 => [(0x7FFF, 1), (0x8000, 0xFFFF)],
+        0o331 => [(0x8000, 1), (0x7FFF, 0xFFFF)],
+        0o332 => [(0x8000, 0xFFFF), (0x7FFF, 0x7FFF)],
+        _ => [(0x8000, 0xFFFF); 2],
+    };
+    match rng.below(3) {
+        0 => (c, 0),
+        1 => rng.pick(&outside),
+        _ => (c, a),
+    }
+}
+
+/// A channel, or seldom the first number above them.
+fn channel(rng: &mut Rng) -> u16 {
+    match rng.below(4) {
+        0 => 16,
+        _ => rng.below(16) as u16,
+    }
+}
+
 /// S often just below H, for a STORE.
 fn set_limit(rng: &mut Rng, machine: &mut Machine) {
     let words = u16::from(machine.depth) + 1;
@@ -575,7 +605,7 @@ pub fn set_saved(rng: &mut Rng, saved: Saved, machine: &mut Machine, run: &mut C
 }
 
 /// The first of so many words that lie over a range, or just beside it.
-fn near(rng: &mut Rng, range: &Range<usize>, length: usize) -> usize {
+pub fn near(rng: &mut Rng, range: &Range<usize>, length: usize) -> usize {
     rng.within(range.start.saturating_sub(length), range.end)
 }
 

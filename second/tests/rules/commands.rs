@@ -48,6 +48,59 @@ fn reading() {
     assert_eq!(text(&second(&["reading"], &[]).stdout), "refused 1\n");
 }
 
+/// With requests a third line has what is left of them. The vectors are zeros, so a
+/// line is 35.
+#[test]
+fn reading_with_requests() {
+    let path = file("example-requests", &EXAMPLE);
+    let path = path.to_str().unwrap();
+    let check = |word: &str, expected: &str| {
+        for (arguments, input) in [
+            (&["reading", "--requests", word][..], &EXAMPLE[..]),
+            (&["reading", "--requests", word, path], &[]),
+        ] {
+            let output = second(arguments, input);
+            let answer = (text(&output.stdout), output.status.code());
+            assert_eq!(answer, (expected, Some(0)));
+        }
+    };
+    check("0", READING);
+    check("255", &format!("{READING}requests 255\n"));
+    let zeros = ["0"; 16].join(" ");
+    let failed = |word: &str| {
+        format!("stop 35 code 0 steps 0 module 0 pc 0 depth 0\n{zeros}\nrequests {word}\n")
+    };
+    check("256", &failed("256"));
+    check("65535", &failed("65535"));
+    let output = second(&["reading", "--requests", "256"], &[2]);
+    assert_eq!(text(&output.stdout), "refused 3\n");
+}
+
+/// Requests that are given after some steps: before the end, or never. Options stand
+/// in any order, and the last of a name holds.
+#[test]
+fn reading_with_requests_later() {
+    let outputs = &READING[READING.find('\n').unwrap()..];
+    let before_end = format!("stop 35 code 0 steps 3 module 0 pc 3 depth 0{outputs}requests 256\n");
+    let never = format!("{READING}requests 256\n");
+    for (arguments, expected) in [
+        (&["--after", "3"][..], READING),
+        (&["--requests", "0", "--after", "3"], READING),
+        (&["--requests", "256", "--after", "3"], &before_end),
+        (&["--after", "3", "--requests", "256"], &before_end),
+        (
+            &["--after", "1", "--requests", "256", "--after", "3"],
+            &before_end,
+        ),
+        (&["--requests", "256", "--after", "4"], &never),
+        (&["--requests", "256", "--after", "4294967295"], &never),
+    ] {
+        let output = second(&[&["reading"], arguments].concat(), &EXAMPLE);
+        let answer = (text(&output.stdout), output.status.code());
+        assert_eq!(answer, (expected, Some(0)), "{arguments:?}");
+    }
+}
+
 /// The 65,536th byte is seen: with it the image is too long, whatever it says.
 /// Without it the image is longer than the desk's map.
 #[test]
@@ -155,6 +208,8 @@ fn small_cases_and_their_coverage() {
     assert!(text(&output.stdout).contains("missing: load never answered 8\n"));
     let sum = "missing: no stops of UADD with 37 with the result 65536\n";
     assert!(text(&output.stdout).contains(sum));
+    let line = "missing: no steps of line 8\n";
+    assert!(text(&output.stdout).contains(line));
 }
 
 #[test]
@@ -182,6 +237,21 @@ fn errors_are_one_line_and_status_2() {
         &["unknown"],
         &["reading", "a", "b"],
         &["reading", missing],
+        &["reading", "--requests"],
+        &["reading", "--requests", ""],
+        &["reading", "--requests", "65536"],
+        &["reading", "--requests", "-1"],
+        &["reading", "--requests", "+1"],
+        &["reading", "--requests", "0x100"],
+        &["reading", "--requests", "1", missing],
+        &["reading", "--requests", "1", "a", "b"],
+        &["reading", no_file, "--requests", "1"],
+        &["reading", "--after"],
+        &["reading", "--after", "-1"],
+        &["reading", "--after", "4294967296"],
+        &["reading", "--requests", "1", "--after"],
+        &["reading", "--requests", "--after", "1"],
+        &["reading", "--seed", "1"],
         &["map"],
         &["map", missing],
         &["coverage", "--seed"],

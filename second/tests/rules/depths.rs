@@ -2,6 +2,7 @@
 
 use crate::oracle::{fewest, first_fault};
 use crate::rig::{entry_of, procedure, run_number, Rig, FF, FOR_EVER, WORDS};
+use second::api::Buffers;
 use second::assemble::{encode, Source};
 use second::depths::fits;
 use second::image::{parse, Procedure};
@@ -680,6 +681,13 @@ fn load_makes_maps_that_run_takes() {
     assert_eq!(load(&image, &mut map).number, 0);
     let mut store = vec![0; WORDS];
     let (_, machine) = second::start(&image, &mut store);
-    let answer = run(machine, &image, &map, &mut store, &mut [0; 16], &[0; 16], 9);
+    let buffers = Buffers {
+        image: &image,
+        map: &map,
+        store: &mut store,
+        outputs: &mut [0; 16],
+        inputs: &[0; 16],
+    };
+    let answer = run(machine, buffers, 0, 9);
     assert_eq!((answer.number, answer.count), (31, 3));
 }

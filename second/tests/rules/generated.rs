@@ -1,10 +1,11 @@
 //! The generator, its cases and their file; laws that hold in every case.
 
+use crate::line_kinds::is_of_lines;
 use crate::rig::FF;
 use second::api::{run_observed, Buffers};
 use second::assemble::{self, Source};
 use second::case::{decode, encode, replay, Case, CaseRun, Checksum};
-use second::coverage::Coverage;
+use second::coverage::{Coverage, Steps};
 use second::depths::fits;
 use second::gen::{self, Scale, FULL, ROUND, SMALL};
 use second::image::{parse, Module, Procedure};
@@ -93,10 +94,34 @@ fn everything_is_covered() {
         assert_eq!(stops, 3 + low_words);
     }
     assert_eq!(beginning("no steps with a sum that goes round at "), 6);
+    // What A.7 makes of eight lines: five fates, ten collisions with three sizes of
+    // either stack, and what is beside them.
+    for line in 8..=15 {
+        assert_eq!(ending(&format!(" line {line}")), 5);
+    }
+    assert_eq!(beginning("no lines that restore "), 3 * 10);
+    assert_eq!(beginning("no lines that save "), 3 * 10);
+    assert_eq!(beginning("no steps of a line before "), 3);
+    assert_eq!(beginning("no steps of a line handed on "), 3);
+    assert_eq!(beginning("no steps of a line with "), 16 + 8);
+    assert_eq!(beginning("no lower lines "), 2);
+    assert_eq!(beginning("no interrupted process "), 4);
+    // And of the word of requests.
+    assert_eq!(beginning("no instructions without lines, with bit "), 8);
+    assert_eq!(beginning("no runs with lines refused with "), 11);
+    assert_eq!(beginning("no runs with an open line "), 3);
+    assert_eq!(beginning("no instructions that open a line by "), 2);
+    assert_eq!(beginning("no runs that take "), 2 + 2);
+    assert_eq!(beginning("no stops with 35 by a line behind "), 3);
+    let of_lines = faults.iter().filter(|fault| is_of_lines(fault));
+    assert_eq!(
+        of_lines.count(),
+        40 + 60 + 27 + 3 + 6 + 8 + 11 + 3 + 2 + 4 + 3
+    );
 }
 
 /// A module, and entry, parameters and results of its procedures.
-fn module_of(procedures: &[(u16, u8, u8)], code: &[u8]) -> Source {
+pub fn module_of(procedures: &[(u16, u8, u8)], code: &[u8]) -> Source {
     let procedure = |&(entry, parameters, results): &(u16, u8, u8)| Procedure {
         entry,
         parameters,
@@ -671,12 +696,124 @@ fn unsigned_results_are_needed() {
     }
 }
 
+/// The cases of A.7 in so many rounds that each has had its turn, but for the hostile
+/// ones and but for some, by their kind and what is left of the round divided by 3.
+fn cases_of_lines<'a>(
+    scale: &'a Scale,
+    seed: u64,
+    left_out: &'a [(u64, u64)],
+) -> impl Iterator<Item = Case> + 'a {
+    let indices = (0..27 * ROUND).filter(move |index| {
+        let (kind, round) = (index % ROUND, index / ROUND);
+        (41..=45).contains(&kind) && !left_out.contains(&(kind, round % 3))
+    });
+    indices.map(move |index| gen::case(scale, seed, index))
+}
+
+fn missing_lines(cases: impl Iterator<Item = Case>) -> Vec<String> {
+    let mut missing = Coverage::of(cases).faults();
+    missing.retain(|fault| is_of_lines(fault));
+    missing
+}
+
+/// They have every kind, whatever the seed.
+#[test]
+fn lines_are_generated() {
+    let seeds = (1..=24).map(|seed| (&SMALL, seed));
+    for (scale, seed) in seeds.chain([(&FULL, 1)]) {
+        let missing = missing_lines(cases_of_lines(scale, seed, &[]));
+        assert_eq!(missing, [""; 0], "seed {seed}");
+    }
+}
+
+/// Without the cases of one kind, something is missing.
+#[test]
+fn kinds_of_lines_are_needed() {
+    let check = |left_out: &[(u64, u64)], expected: &[&str]| {
+        let missing = missing_lines(cases_of_lines(&SMALL, SEED, left_out));
+        for kind in expected {
+            assert!(missing.contains(&format!("no {kind}")), "{missing:?}");
+        }
+    };
+    let always = |kind: u64| [(kind, 0), (kind, 1), (kind, 2)];
+    check(
+        &always(41),
+        &[
+            "instructions with word 3 alone against line 15",
+            "instructions without lines, with bit 7",
+        ],
+    );
+    check(
+        &always(42),
+        &[
+            "lines that save 16 words, with the saved stack over the own record",
+            "lines that restore 16 words, with word 2i + 1 in the target's stack",
+        ],
+    );
+    check(
+        &[(43, 0)],
+        &["steps of a line with a pending one that M masks"],
+    );
+    check(
+        &[(43, 1)],
+        &[
+            "lower lines that could be taken, below one that stops with 35",
+            "runs that take 3 lines or more",
+            "runs with an open line that have budget 0",
+            "steps of a line handed on by a refused run",
+        ],
+    );
+    check(
+        &[(43, 2)],
+        &[
+            "steps of a line with word 3 in the saved stack",
+            "steps of a line with word 2j of an open one in the saved stack",
+        ],
+    );
+    check(
+        &[(44, 0)],
+        &[
+            "instructions that open a line by word 3",
+            "instructions that open a line by M",
+            "runs that take a line at first masked by M alone",
+            "stops with 35 by a line behind instructions alone",
+        ],
+    );
+    check(
+        &[(44, 1), (44, 2)],
+        &[
+            "steps of a line before an end",
+            "steps of a line with a target at word 0",
+        ],
+    );
+    check(&[(45, 0)], &["runs with lines refused with 12"]);
+    let back = ["interrupted process resumed by a transfer from another module"];
+    check(&[(45, 1), (45, 2)], &back);
+}
+
+/// An expression that lines interrupt comes to its TRAP, in a run that has a line and
+/// a transfer back in its midst.
+#[test]
+fn interrupted_expressions_come_to_their_end() {
+    let mut ended = 0;
+    for round in (0..64).filter(|round| round % 3 != 0) {
+        let case = gen::case(&SMALL, SEED, ROUND * round + 45);
+        let outcome = replay(&case, &mut ());
+        let last = outcome.runs.last().unwrap();
+        assert_eq!(last.answer.number, 40, "{round}");
+        assert_eq!(last.taken().count_ones(), 1);
+        assert_eq!(last.answer.machine.p, last.handed.p);
+        ended += 1;
+    }
+    assert_eq!(ended, 42);
+}
+
 /// 37 does not cut programs short: where UADD, USUB and UMUL are only the means,
 /// most go on, and words that are saved and restored step by step come to their
 /// TRAP.
 #[test]
 fn most_unsigned_results_are_inside() {
-    let (mut steps, mut stops) = ([0; 256], 0);
+    let (mut steps, mut stops) = (Steps::NONE, 0);
     for (index, case) in gen::cases(&SMALL, SEED, 3008).enumerate() {
         let kind = index as u64 % ROUND;
         if !matches!(kind, 2..=6 | 16..=20 | 32..=36) {
@@ -692,7 +829,7 @@ fn most_unsigned_results_are_inside() {
             assert_eq!(outcome.runs.last().unwrap().answer.number, 40, "{index}");
         }
     }
-    let steps: u64 = steps[0o270..=0o272].iter().sum();
+    let steps: u64 = steps.opcodes[0o270..=0o272].iter().sum();
     assert!(stops > 0 && steps > 10 * stops, "{steps} {stops}");
 }
 
@@ -734,45 +871,49 @@ fn the_file_is_as_documented() {
         runs: vec![
             CaseRun {
                 budget: 0x0001_0002,
+                requests: Some(0xA55A),
                 inputs: vec![11],
                 machine: Some(machine),
                 map_patches: vec![(3, 0x9ABC_DEF0)],
                 store_patches: vec![(12, 13), (14, 15)],
             },
-            // The inputs of the run before, and none.
+            // The inputs of the run before, and none. Requests of its own that are
+            // 0, and those of the run before.
             CaseRun {
+                requests: Some(0),
                 inputs: vec![11],
                 ..CaseRun::default()
             },
             CaseRun::default(),
         ],
     };
-    let mut expected: Vec<u16> = vec![0x4D43, 3, 0, 1];
+    let mut expected: Vec<u16> = vec![0x4D43, 4, 0, 1];
     expected.extend([0, 3, 0xABCD, 0xEF00]);
     expected.extend([0, 4, 0x1234, 0x5678]);
     expected.extend([1, 0, 0x1234]);
     expected.extend([2, 9, 10]);
     expected.push(3);
     expected.extend([1, 2]);
+    expected.extend([1, 0xA55A]);
     expected.extend([1, 1, 11]);
     expected.extend([1, 1, 2, 3, 4, 5, 6, 7, 8]);
     expected.push(13);
     expected.extend(0x100..0x10D);
     expected.extend([1, 3, 0x9ABC, 0xDEF0]);
     expected.extend([2, 12, 13, 14, 15]);
-    expected.extend([0, 0, 0, 0, 0, 0]);
-    expected.extend([0, 0, 1, 0, 0, 0, 0]);
+    expected.extend([0, 0, 1, 0, 0, 0, 0, 0]);
+    expected.extend([0, 0, 0, 1, 0, 0, 0, 0]);
     let bytes: Vec<u8> = expected.iter().flat_map(|w| w.to_be_bytes()).collect();
     assert_eq!(encode(&[case]), bytes);
 }
 
 #[test]
 fn checksums_are_as_documented() {
-    assert_eq!(Checksum::of([].into_iter()), Checksum(1, 1));
-    assert_eq!(Checksum::of([5].into_iter()), Checksum(36, 262));
+    assert_eq!(Checksum::of(&[]), Checksum(1, 1));
+    assert_eq!(Checksum::of(&[5]), Checksum(36, 262));
     // 36 · 31 + 65,535 = 66,651; 262 · 257 + 65,535 = 132,869.
     assert_eq!(
-        Checksum::of([5, 65_535].into_iter()),
+        Checksum::of(&[5, 65_535]),
         Checksum(66_651 - 65_521, 132_869 - 2 * 65_519)
     );
 }
@@ -788,6 +929,7 @@ fn an_outcome_is_printed_in_lines() {
         runs: vec![
             CaseRun {
                 budget: 1000,
+                requests: Some(255),
                 inputs: vec![0; 16],
                 ..CaseRun::default()
             },
@@ -803,9 +945,10 @@ fn an_outcome_is_printed_in_lines() {
     assert!(lines[0].starts_with(&loaded), "{}", lines[0]);
     assert!(lines[0].ends_with(" machine 0 0 0 131 139 143 143 0 stack"));
     let outputs = "outputs 3 3 7 3 3 3 3 3 3 3 3 3 3 3 3 3 store ";
-    let stopped = format!("run 31 code 0 count 3 machine 0 3 0 131 139 143 143 0 stack {outputs}");
+    let machine = "machine 0 3 0 131 139 143 143 0 stack";
+    let stopped = format!("run 31 code 0 count 3 requests 255 {machine} {outputs}");
     assert!(lines[1].starts_with(&stopped), "{}", lines[1]);
-    let refused = format!("run 10 code 0 count 0 machine 0 3 0 131 139 143 143 0 stack {outputs}");
+    let refused = format!("run 10 code 0 count 0 requests 255 {machine} {outputs}");
     assert!(lines[2].starts_with(&refused), "{}", lines[2]);
 }
 
@@ -837,8 +980,8 @@ fn a_stack_is_printed_without_its_last_zeros() {
         ..Case::default()
     };
     let text = replay(&case, &mut ()).to_string();
-    assert!(text
-        .contains("\nrun 1 code 0 count 0 machine 0 0 0 0 0 0 0 0 stack 0 5 outputs store 1 1\n"));
+    let run = "run 1 code 0 count 0 requests 0 machine 0 0 0 0 0 0 0 0 stack 0 5 outputs store 1 1";
+    assert!(text.contains(&format!("\n{run}\n")));
 }
 
 /// Small cases reach the largest sizes too.
@@ -867,22 +1010,23 @@ fn small_cases_have_the_largest_sizes() {
 #[derive(Clone, PartialEq, Debug)]
 struct State {
     machine: Machine,
+    requests: u16,
     store: Vec<u16>,
     outputs: Vec<u16>,
 }
 
 impl State {
     fn run(&mut self, case: &Case, map: &[u32], inputs: &[u16], n: u32) -> RunAnswer {
-        let answer = run(
-            self.machine,
-            &case.image,
+        let buffers = Buffers {
+            image: &case.image,
             map,
-            &mut self.store,
-            &mut self.outputs,
+            store: &mut self.store,
+            outputs: &mut self.outputs,
             inputs,
-            n,
-        );
+        };
+        let answer = run(self.machine, buffers, self.requests, n);
         self.machine = answer.machine;
+        self.requests = answer.requests;
         answer
     }
 }
@@ -896,6 +1040,7 @@ fn for_each_run(cases: impl Iterator<Item = Case>, check: impl Fn(&Case, &[u32],
         let (_, machine) = start(&case.image, &mut store);
         let mut state = State {
             machine,
+            requests: 0,
             store,
             outputs: case.outputs.clone(),
         };
@@ -907,6 +1052,7 @@ fn for_each_run(cases: impl Iterator<Item = Case>, check: impl Fn(&Case, &[u32],
                 state.store[usize::from(address)] = word;
             }
             state.machine = run.machine.unwrap_or(state.machine);
+            state.requests = run.requests.unwrap_or(state.requests);
             check(&case, &map, run, state.clone());
             state.run(&case, &map, &run.inputs, run.budget);
         }
@@ -946,7 +1092,9 @@ fn lent_result_counts_are_generated() {
     );
 }
 
-/// "n + m where two runs are compared, m at least 1; their counts add."
+/// "n + m where two runs are compared, m at least 1; their counts add." A.7:
+/// "Running n and then m agrees with n + m if the second call gets the word the
+/// first returned."
 #[test]
 fn n_and_then_m_is_n_plus_m() {
     for_each_run(gen::cases(&FULL, 11, 700), |case, map, run, before| {
@@ -1007,11 +1155,12 @@ fn every_point_of_a_run_is_a_machine() {
     });
 }
 
-/// The opcodes that an observer is told are those counted.
+/// The opcodes and the lines that an observer is told are those counted; each line
+/// clears its bit.
 #[test]
 fn an_observer_sees_the_steps_counted() {
     for_each_run(gen::cases(&FULL, 13, 200), |case, map, run, mut before| {
-        let mut steps = [0u64; 256];
+        let mut steps = Steps::NONE;
         let buffers = Buffers {
             image: &case.image,
             map,
@@ -1019,8 +1168,13 @@ fn an_observer_sees_the_steps_counted() {
             outputs: &mut before.outputs,
             inputs: &run.inputs,
         };
-        let answer = run_observed(before.machine, buffers, run.budget, &mut steps);
-        assert_eq!(u64::from(answer.count), steps.iter().sum::<u64>());
+        let (machine, requests) = (before.machine, before.requests);
+        let answer = run_observed(machine, buffers, requests, run.budget, &mut steps);
+        let instructions: u64 = steps.opcodes.iter().sum();
+        let lines: u64 = steps.lines.iter().sum();
+        assert_eq!(u64::from(answer.count), instructions + lines);
+        let taken = requests & !answer.requests;
+        assert_eq!(u64::from(taken.count_ones()), lines);
     });
 }
 

@@ -6,6 +6,8 @@ mod depths;
 mod generated;
 mod instructions;
 mod kinds;
+mod line_kinds;
+mod lines;
 mod marked;
 mod oracle;
 mod pairs;

@@ -2,6 +2,7 @@
 //! code that is not whole are in `whole.rs`.
 
 use crate::rig::{Rig, FF, WORDS};
+use second::api::Buffers;
 use second::assemble::{encode, Source};
 use second::image::{parse, Procedure};
 use second::{load, run, start, Machine};
@@ -236,15 +237,14 @@ fn data_sizes_are_free_but_no_store_holds_them() {
     for words in [4_096, 65_535] {
         let mut store = vec![7; words];
         assert_eq!(start(&image, &mut store), (9, Machine::default()));
-        let answer = run(
-            Machine::default(),
-            &image,
-            &map,
-            &mut store,
-            &mut [0; 16],
-            &[0; 16],
-            1,
-        );
+        let buffers = Buffers {
+            image: &image,
+            map: &map,
+            store: &mut store,
+            outputs: &mut [0; 16],
+            inputs: &[0; 16],
+        };
+        let answer = run(Machine::default(), buffers, 0, 1);
         assert_eq!(answer.number, 9);
     }
     // Z + 36 = 65,535 exactly, and one more.
@@ -257,21 +257,21 @@ fn data_sizes_are_free_but_no_store_holds_them() {
     }
 }
 
-/// A run on a copy of the rig, with everything it was lent unchanged.
+/// A run on a copy of the rig, with everything it was lent unchanged, and its word of
+/// requests returned.
 fn refused(rig: &Rig, machine: Machine, words: usize, outputs: usize, inputs: usize) -> u8 {
     let mut store = vec![0x1234; words];
     let mut lent_outputs = vec![0x4321; outputs];
-    let answer = run(
-        machine,
-        &rig.image,
-        &rig.map,
-        &mut store,
-        &mut lent_outputs,
-        &vec![0; inputs],
-        5,
-    );
+    let buffers = Buffers {
+        image: &rig.image,
+        map: &rig.map,
+        store: &mut store,
+        outputs: &mut lent_outputs,
+        inputs: &vec![0; inputs],
+    };
+    let answer = run(machine, buffers, 0x00FF, 5);
     if answer.number < 30 {
-        assert_eq!((answer.code, answer.count), (0, 0));
+        assert_eq!((answer.code, answer.count, answer.requests), (0, 0, 0x00FF));
         assert_eq!(answer.machine, machine);
         assert_eq!(store, vec![0x1234; words]);
         assert_eq!(lent_outputs, vec![0x4321; outputs]);

@@ -1,5 +1,6 @@
 //! A program with its buffers, and a check of single steps.
 
+use second::api::Buffers;
 use second::assemble::{encode, Source};
 use second::image::Procedure;
 use second::{load, run, start, Machine, RunAnswer};
@@ -48,6 +49,7 @@ pub struct Rig {
     pub outputs: [u16; 16],
     pub inputs: [u16; 16],
     pub machine: Machine,
+    pub requests: u16,
 }
 
 impl Rig {
@@ -65,6 +67,7 @@ impl Rig {
             outputs: [0; 16],
             inputs: [0; 16],
             machine,
+            requests: 0,
         }
     }
 
@@ -72,18 +75,18 @@ impl Rig {
         Rig::new(&[Source::plain(code)], WORDS)
     }
 
-    /// Runs and keeps the machine.
+    /// Runs and keeps the machine and what is left of the requests.
     pub fn run(&mut self, n: u32) -> RunAnswer {
-        let answer = run(
-            self.machine,
-            &self.image,
-            &self.map,
-            &mut self.store,
-            &mut self.outputs,
-            &self.inputs,
-            n,
-        );
+        let buffers = Buffers {
+            image: &self.image,
+            map: &self.map,
+            store: &mut self.store,
+            outputs: &mut self.outputs,
+            inputs: &self.inputs,
+        };
+        let answer = run(self.machine, buffers, self.requests, n);
         self.machine = answer.machine;
+        self.requests = answer.requests;
         answer
     }
 
@@ -100,8 +103,18 @@ impl Rig {
     }
 
     /// Makes one step that must be counted, and must leave just the machine
-    /// and the store words named, the outputs as they were.
+    /// and the store words named, the outputs and the requests as they were.
     pub fn expect_step(&mut self, change: impl Fn(&mut Machine), writes: &[(u16, u16)]) {
+        self.expect_step_of(self.requests, change, writes);
+    }
+
+    /// The same, with these requests left.
+    pub fn expect_step_of(
+        &mut self,
+        left: u16,
+        change: impl Fn(&mut Machine),
+        writes: &[(u16, u16)],
+    ) {
         let mut expected = self.clone();
         change(&mut expected.machine);
         expected.poke(writes);
@@ -110,11 +123,12 @@ impl Rig {
         assert_eq!(self.machine, expected.machine);
         assert_eq!(self.differences(&expected), []);
         assert_eq!(self.outputs, expected.outputs);
+        assert_eq!(self.requests, left);
         // What is left is a machine: the depth is the one marked there.
         assert_eq!(self.run(0).number, 30);
     }
 
-    /// The next instruction must stop, and leave everything as it was.
+    /// The next instruction or line must stop, and leave everything as it was.
     pub fn expect_stop(&mut self, number: u8, code: u16) {
         let before = self.clone();
         let answer = self.run(1000);
@@ -125,6 +139,7 @@ impl Rig {
         assert_eq!(self.machine, before.machine);
         assert_eq!(self.differences(&before), []);
         assert_eq!(self.outputs, before.outputs);
+        assert_eq!(self.requests, before.requests);
     }
 
     /// Store words that differ: address, here, there.

@@ -2,6 +2,7 @@
 
 use crate::rig::{at_instruction, entry_of, here, module, procedure, run_number, set_stack};
 use crate::rig::{Rig, BASE_0, FF, FOR_EVER, H, L, S, WORDS};
+use second::api::Buffers;
 use second::assemble::{encode, Source};
 use second::image::Procedure;
 use second::mark::{Mark, Saved};
@@ -698,17 +699,14 @@ fn seven_counts_entries() {
     let rig = Rig::plain(&[LI1, STORE, LI1, TRAP]);
     let number = |entries: usize| {
         let (mut store, mut outputs) = (rig.store.clone(), [0; 16]);
-        let map = &map[..entries];
-        run(
-            rig.machine,
-            &image,
-            map,
-            &mut store,
-            &mut outputs,
-            &[0; 16],
-            9,
-        )
-        .number
+        let buffers = Buffers {
+            image: &image,
+            map: &map[..entries],
+            store: &mut store,
+            outputs: &mut outputs,
+            inputs: &[0; 16],
+        };
+        run(rig.machine, buffers, 0, 9).number
     };
     assert_eq!((number(7), number(8)), (7, 40));
 }

@@ -8,16 +8,16 @@ use second::Machine;
 /// Where the tests keep the other process.
 const TO: u16 = 900;
 const FROM: u16 = 901;
-const Q: u16 = 1000;
-const MASK: u16 = 0x0F0F;
+pub const Q: u16 = 1000;
+pub const MASK: u16 = 0x0F0F;
 
 /// A record: G, L, position, M, s, v.
-type Record = [u16; 6];
+pub type Record = [u16; 6];
 
 /// Module 1, position 3, which is marked 3; three words from 2000 up.
-const GOOD: Record = [BASE_1, 0x1111, 3, 0x2222, 2004, 3000];
+pub const GOOD: Record = [BASE_1, 0x1111, 3, 0x2222, 2004, 3000];
 
-fn poke_record(rig: &mut Rig, q: u16, record: Record) {
+pub fn poke_record(rig: &mut Rig, q: u16, record: Record) {
     for (offset, word) in (0..).zip(record) {
         rig.poke(&[(q + offset, word)]);
     }
@@ -29,9 +29,14 @@ fn at_transfer(b: u8) -> Rig {
     let mut rig = at_instruction(&[0o256, b], &[11, 12, FROM, TO]);
     rig.machine.m = MASK;
     rig.poke(&[(TO, Q), (FROM, 0xDEAD)]);
-    poke_record(&mut rig, Q, GOOD);
-    rig.poke(&[(2000, 0xC0), (2001, 0xB0), (2002, 0xA0), (2003, 3)]);
+    poke_good(&mut rig);
     rig
+}
+
+/// The good record at Q, and its stack.
+pub fn poke_good(rig: &mut Rig) {
+    poke_record(rig, Q, GOOD);
+    rig.poke(&[(2000, 0xC0), (2001, 0xB0), (2002, 0xA0), (2003, 3)]);
 }
 
 /// The position behind the transfer.
@@ -40,7 +45,7 @@ fn next() -> u16 {
 }
 
 /// The machine after a transfer to the good record.
-fn restored(mask: u16) -> impl Fn(&mut Machine) {
+pub fn restored(mask: u16) -> impl Fn(&mut Machine) {
     move |machine| {
         *machine = Machine {
             module: 1,
@@ -172,8 +177,13 @@ fn addresses_come_first() {
 
 #[test]
 fn each_condition_of_35_singly() {
+    check_conditions(|| at_transfer(1));
+}
+
+/// Each condition of 35, where a rig is about to change to the good process.
+pub fn check_conditions(before: impl Fn() -> Rig) {
     let check = |number: u8, change: fn(&mut Record), words: &[(u16, u16)]| {
-        let mut rig = at_transfer(1);
+        let mut rig = before();
         let mut record = GOOD;
         change(&mut record);
         poke_record(&mut rig, Q, record);

@@ -2,6 +2,7 @@
 
 use crate::oracle;
 use crate::rig::{FF, FOR_EVER, WORDS};
+use second::api::Buffers;
 use second::assemble::{encode, Source};
 use second::depths::assign;
 use second::gen::{self, FULL, SMALL};
@@ -562,7 +563,14 @@ fn start_and_run_know_no_13() {
     let number = |machine: Machine, map: &[u32], words: usize, channels: usize| {
         let (mut store, mut outputs) = (vec![0; words], vec![0; channels]);
         let inputs = vec![0; channels];
-        let answer = run(machine, &image, map, &mut store, &mut outputs, &inputs, 5);
+        let buffers = Buffers {
+            image: &image,
+            map,
+            store: &mut store,
+            outputs: &mut outputs,
+            inputs: &inputs,
+        };
+        let answer = run(machine, buffers, 0, 5);
         assert_eq!((answer.machine, answer.count, answer.code), (machine, 0, 0));
         answer.number
     };

@@ -7,20 +7,20 @@ use Rattle.reading.proofs.put_reading.Tie as tie
 store-words-requires : tie.Need-store-words-requires
 store-words-requires c κs = search needs
 
-slice-relend-prefix-reading : tie.Need-slice-relend-prefix-reading
-slice-relend-prefix-reading c = search needs
+slice-relend-prefix-read : tie.Need-slice-relend-prefix-read
+slice-relend-prefix-read c = search needs
 
-slice-aggregate-reading : tie.Need-slice-aggregate-reading
-slice-aggregate-reading c = sym (length-take-le (c .before .before .before .store-words .result) (c .before .before .before .before .before .before .before .before .before .args .store .now) (c .before .before .before .store-words .ensures))
+slice-aggregate-read : tie.Need-slice-aggregate-read
+slice-aggregate-read c = sym (length-take-le (c .before .before .before .store-words .result) (c .before .before .before .before .before .before .before .before .before .args .store .now) (c .before .before .before .store-words .ensures))
 
-slice-aggregate-reading-2 : tie.Need-slice-aggregate-reading-2
-slice-aggregate-reading-2 c = search needs
+slice-aggregate-read-2 : tie.Need-slice-aggregate-read-2
+slice-aggregate-read-2 c = search needs
 
-slice-aggregate-reading-3 : tie.Need-slice-aggregate-reading-3
-slice-aggregate-reading-3 c = search needs
+slice-aggregate-read-3 : tie.Need-slice-aggregate-read-3
+slice-aggregate-read-3 c = search needs
 
-reading-requires : tie.Need-reading-requires
-reading-requires c κs = search needs
+read-requires : tie.Need-read-requires
+read-requires c κs = search needs
 
 enum-known-ending : tie.Need-enum-known-ending
 enum-known-ending c = search needs
@@ -40,8 +40,11 @@ refusal-requires c κs = search needs
 enum-known-ending-2 : tie.Need-enum-known-ending-2
 enum-known-ending-2 c = search needs
 
-reading-requires-2 : tie.Need-reading-requires-2
-reading-requires-2 c κs = search needs
+reading-requires : tie.Need-reading-requires
+reading-requires c κs = search needs
+
+put-left-requires : tie.Need-put-left-requires
+put-left-requires c κs = search needs
 
 same-length : tie.Need-same-length
 same-length c = search needs
@@ -72,18 +75,19 @@ put-reading-spec =
     tie.close
     (tie.spec
     store-words-requires
-    slice-relend-prefix-reading
-    slice-aggregate-reading
-    slice-aggregate-reading-2
-    slice-aggregate-reading-3
-    reading-requires
+    slice-relend-prefix-read
+    slice-aggregate-read
+    slice-aggregate-read-2
+    slice-aggregate-read-3
+    read-requires
     enum-known-ending
     refused-requires
     found-requires
     slice-aggregate-refusal
     refusal-requires
     enum-known-ending-2
-    reading-requires-2
+    reading-requires
+    put-left-requires
     same-length
     same-length-2
     same-length-3

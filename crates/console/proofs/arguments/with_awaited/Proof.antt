@@ -44,6 +44,42 @@ slice-aggregate-with-value-3 c = search needs
 with-value-requires-3 : tie.Need-with-value-requires-3
 with-value-requires-3 c κs = search needs
 
+enum-told-5 : tie.Need-enum-told-5
+enum-told-5 c = search needs
+
+requests-requires : tie.Need-requests-requires
+requests-requires c κs = search needs
+
+slice-aggregate-with-value-4 : tie.Need-slice-aggregate-with-value-4
+slice-aggregate-with-value-4 c = search needs
+
+with-value-requires-4 : tie.Need-with-value-requires-4
+with-value-requires-4 c κs = search needs
+
+enum-told-6 : tie.Need-enum-told-6
+enum-told-6 c = search needs
+
+line-requires : tie.Need-line-requires
+line-requires c κs = search needs
+
+slice-aggregate-with-value-5 : tie.Need-slice-aggregate-with-value-5
+slice-aggregate-with-value-5 c = search needs
+
+with-value-requires-5 : tie.Need-with-value-requires-5
+with-value-requires-5 c κs = search needs
+
+enum-told-7 : tie.Need-enum-told-7
+enum-told-7 c = search needs
+
+after-requires : tie.Need-after-requires
+after-requires c κs = search needs
+
+slice-aggregate-with-value-6 : tie.Need-slice-aggregate-with-value-6
+slice-aggregate-with-value-6 c = search needs
+
+with-value-requires-6 : tie.Need-with-value-requires-6
+with-value-requires-6 c κs = search needs
+
 returns : tie.Need-returns
 returns c = says-by (c .before .before .before .before .args .asked) (c .before .before .before .before .args .text .now) _ (c .enum-told .given .1)
 
@@ -55,6 +91,15 @@ returns-3 c = c .with-value2 .ensures ∙ ap (withValue (c .before .before .befo
 
 returns-4 : tie.Need-returns-4
 returns-4 c = c .with-value3 .ensures ∙ ap (withValue (c .before .before .before .before .before .before .before .args .asked)) (c .before .before .input .ensures) ∙ says-by (c .before .before .before .before .before .before .before .args .asked) (c .before .before .before .before .before .before .before .args .text .now) _ (c .before .before .before .enum-told4 .given .1)
+
+returns-5 : tie.Need-returns-5
+returns-5 c = c .with-value4 .ensures ∙ ap (withValue (c .before .before .before .before .before .before .before .args .asked)) (c .before .before .requests .ensures) ∙ says-by (c .before .before .before .before .before .before .before .args .asked) (c .before .before .before .before .before .before .before .args .text .now) _ (c .before .before .before .enum-told5 .given .1)
+
+returns-6 : tie.Need-returns-6
+returns-6 c = c .with-value5 .ensures ∙ ap (withValue (c .before .before .before .before .before .before .before .args .asked)) (c .before .before .line .ensures) ∙ says-by (c .before .before .before .before .before .before .before .args .asked) (c .before .before .before .before .before .before .before .args .text .now) _ (c .before .before .before .enum-told6 .given .1)
+
+returns-7 : tie.Need-returns-7
+returns-7 c = c .with-value6 .ensures ∙ ap (withValue (c .before .before .before .before .before .before .before .args .asked)) (c .before .before .after .ensures) ∙ says-by (c .before .before .before .before .before .before .before .args .asked) (c .before .before .before .before .before .before .before .args .text .now) _ (c .before .before .before .enum-told7 .given .1)
 
 pub with-awaited-spec : {M : Type 1} → statement M
 with-awaited-spec =
@@ -73,7 +118,22 @@ with-awaited-spec =
     input-requires
     slice-aggregate-with-value-3
     with-value-requires-3
+    enum-told-5
+    requests-requires
+    slice-aggregate-with-value-4
+    with-value-requires-4
+    enum-told-6
+    line-requires
+    slice-aggregate-with-value-5
+    with-value-requires-5
+    enum-told-7
+    after-requires
+    slice-aggregate-with-value-6
+    with-value-requires-6
     returns
     returns-2
     returns-3
-    returns-4)
+    returns-4
+    returns-5
+    returns-6
+    returns-7)

@@ -1,15 +1,9 @@
-use mathlib.Core.Path.{_≡_, refl, sym, ap, _∙_}
-use Rattle.mcode.specs.Run.{runOf}
+use mathlib.Core.Path.{refl}
 use Rattle.engine.proofs.Turns.{refused-run, stopped-run}
 use native.Mathlib.Omega.{arith}
-use borrow.Author.Tests.{ne-eqb, lt-ltb, le-ltb, le-leb, lt-leb, eq-eqb}
 use borrow.Author.Needs.{needs}
 use Rattle.engine.proofs.run.run.Statement.{statement}
 use Rattle.engine.proofs.run.run.Tie as tie
-use Rattle.engine.proofs.run.run.Reads as reads
-use Rattle.engine.proofs.run.run.Lts as lts
-use Rattle.engine.proofs.judge.judge.Reads as judge-reads
-use Rattle.engine.proofs.run.steps.Reads as steps-reads
 
 judge-requires : tie.Need-judge-requires
 judge-requires c κs = search needs

@@ -1,6 +1,7 @@
 use mathlib.Core.Path.{_≡_, refl}
 use native.Mathlib.Omega.{arith}
 use Rattle.engine.proofs.Turns.{refused-run, stopped-run}
+use Rattle.in_place.proofs.Onward.{quiet-so}
 use borrow.Author.Needs.{needs}
 use Rattle.in_place.proofs.run.run.Statement.{statement}
 use Rattle.in_place.proofs.run.run.Tie as tie
@@ -24,7 +25,7 @@ same-length-2 : tie.Need-same-length-2
 same-length-2 c = search needs
 
 returns-2 : tie.Need-returns-2
-returns-2 c = rw (c .stop-of .ensures) (stopped-run _ _ _ _ _ _ (c .before .before .before .before .before .before .before .before .before .before .before .before .before .judge .ensures .refusal _ _ _ refl refl refl) (c .before .before .before .before .before .before .before .before .before .before .before .before .if1 .left) (c .before .before .before .before .before .before .before .steps-in-place .ensures))
+returns-2 c = rw (c .stop-of .ensures) (stopped-run _ _ _ _ _ _ (c .before .before .before .before .before .before .before .before .before .before .before .before .before .judge .ensures .refusal _ _ _ refl refl refl) (c .before .before .before .before .before .before .before .before .before .before .before .before .if1 .left) (quiet-so _ _ _ (c .before .before .before .before .before .before .before .steps-in-place .ensures)))
 
 pub run-spec : {M : Type 1} → statement M
 run-spec =

@@ -2,7 +2,7 @@
 use mathlib.Core.Path.{_≡_, refl, _∙_}
 use Prim.Native.Nat.{_-_, _≤_}
 use lib.ListN.{length}
-use Rattle.mcode.specs.Machine.{state}
+use Rattle.mcode.specs.Machine.{state, live}
 use Rattle.mcode.specs.Run.{runOf}
 use Rattle.engine.specs.Ran.{answered}
 use Rattle.trace.proofs.Most.{at-most}
@@ -13,11 +13,11 @@ use Rattle.trace.proofs.steps.turns.Statement.{statement}
 use Rattle.trace.proofs.steps.turns.Tie as tie
 
 abbrev Inv-loop : tie.InvT-loop
-Inv-loop image map store₀ outputs₀ inputs n program limit before₀ last₀ out₀ used₀ ran₀ done₀ store outputs before last out used ran done =
-    (answered ran store outputs ≡ runOf image map inputs done (state (ran₀ .machine) store₀ outputs₀)) × (done ≤ n) × (length store ≡ length store₀) × (length outputs ≡ length outputs₀) × (length before ≡ length before₀) × (length last ≡ length last₀)
+Inv-loop image map store₀ outputs₀ inputs n requests program limit earlier before₀ last₀ out₀ used₀ ran₀ done₀ store outputs before last out used ran done =
+    (answered ran store outputs ≡ runOf image map inputs done (live (state (ran₀ .machine) store₀ outputs₀) (ran₀ .requests))) × (done ≤ n) × (length store ≡ length store₀) × (length outputs ≡ length outputs₀) × (length before ≡ length before₀) × (length last ≡ length last₀)
 
 abbrev μ-loop : tie.MeasureT-loop
-μ-loop image map store₀ outputs₀ inputs n program limit before₀ last₀ out₀ used₀ ran₀ done₀ store outputs before last out used ran done = n - done
+μ-loop image map store₀ outputs₀ inputs n requests program limit earlier before₀ last₀ out₀ used₀ ran₀ done₀ store outputs before last out used ran done = n - done
 
 run-requires : tie.Need-run-requires Inv-loop μ-loop
 run-requires c κs = search needs

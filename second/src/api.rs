@@ -6,7 +6,9 @@ use crate::image::{self, Program};
 use crate::machine::{self, Machine};
 use crate::mark::UNMARKED;
 use crate::number;
+use crate::request;
 use crate::walk;
+use std::fmt;
 
 /// What load answers.
 #[derive(Clone, Copy, Debug, PartialEq, Eq)]
@@ -43,6 +45,20 @@ pub struct RunAnswer {
     /// What is left of the word of requests.
     pub requests: u16,
     pub machine: Machine,
+}
+
+impl RunAnswer {
+    /// The line whose transfer failed, if one did: with the store that the run left
+    /// it is open still, and an instruction comes only where none is.
+    pub fn failed_line(&self, store: &[u16]) -> Option<u8> {
+        match self.number {
+            number::PROCESS => {
+                let open = request::open(self.requests, self.machine.m, store[request::HELD]);
+                request::highest(open)
+            }
+            _ => None,
+        }
+    }
 }
 
 /// Tests an image and fills the map: 0, or a refusal 1 to 7, then 13, then 8.
@@ -154,24 +170,109 @@ fn admit<'a>(machine: &Machine, buffers: Buffers<'a>) -> Result<(Program, Lent<'
 /// first 0, n = 1,000". A.5: "The desk program's map has 16,384 entries". A.7:
 /// "The desk program gives 0." The text ends in a line feed.
 pub fn desk(image: &[u8]) -> String {
-    desk_with(image, 0, 0)
-}
-
-/// The same with any requests, which are given after so many steps of the 1,000. If
-/// they are not 0, a third line has what is left of them.
-pub fn desk_with(image: &[u8], requests: u16, after: u32) -> String {
-    match desk_run(image, requests, after) {
-        Ok((answer, outputs)) if requests == 0 => reading(&answer, &outputs),
-        Ok((answer, outputs)) => {
-            let left = answer.requests;
-            format!("{}requests {left}\n", reading(&answer, &outputs))
-        }
-        Err(refusal) => format!("refused {refusal}\n"),
+    match desk_run(image, 0, 0) {
+        Ok(desk) => desk.reading(),
+        Err(refusal) => refused(refusal),
     }
 }
 
-/// The desk's run and its outputs, or the first refusal.
-fn desk_run(image: &[u8], requests: u16, after: u32) -> Result<(RunAnswer, [u16; 16]), u8> {
+/// The same with any requests, which are given after so many steps of the 1,000. If
+/// they are not 0, a third line has what is left of them. The last line tells of a
+/// trap that was caught, if the store does.
+pub fn desk_with(image: &[u8], requests: u16, after: u32) -> String {
+    let desk = match desk_run(image, requests, after) {
+        Ok(desk) => desk,
+        Err(refusal) => return refused(refusal),
+    };
+    let mut text = desk.reading();
+    if requests != 0 {
+        text += &format!("requests {}\n", desk.answer.requests);
+    }
+    if let Some(told) = Told::by(&desk.store, desk.modules) {
+        text += &told.to_string();
+    }
+    text
+}
+
+fn refused(refusal: u8) -> String {
+    format!("refused {refusal}\n")
+}
+
+/// What the desk's run answers and leaves.
+struct Desk {
+    answer: RunAnswer,
+    outputs: [u16; 16],
+    store: Vec<u16>,
+    /// The module count of the image.
+    modules: usize,
+}
+
+impl Desk {
+    /// The two lines of a reading.
+    fn reading(&self) -> String {
+        let RunAnswer {
+            number,
+            code,
+            count,
+            machine,
+            ..
+        } = self.answer;
+        let Machine {
+            module, pc, depth, ..
+        } = machine;
+        let outputs = self.outputs.map(|word| word.to_string()).join(" ");
+        format!(
+            "stop {number} code {code} steps {count} module {module} pc {pc} depth {depth}\n\
+             {outputs}\n"
+        )
+    }
+}
+
+/// What a store tells of a trap that was caught.
+struct Told {
+    trap: u16,
+    process: u16,
+    module: usize,
+    pc: u16,
+}
+
+impl Told {
+    /// The process in word 15 has the trap's number in its word 6, and its G is one
+    /// of the copies of the bases from word 32 on. It is a reading of the store: what
+    /// the program wrote over these words is not told otherwise.
+    fn by(store: &[u16], modules: usize) -> Option<Told> {
+        let process = store[Machine::TRAP_OLD];
+        let first = usize::from(process);
+        let record = store.get(first..first + Machine::RECORD)?;
+        let trap = record[Machine::TRAP_NUMBER];
+        let is_trap = (number::ADDRESS.into()..=number::PROGRAM.into()).contains(&trap);
+        if process == 0 || !is_trap {
+            return None;
+        }
+        let bases = &store[Machine::BASE_COPY..][..modules];
+        Some(Told {
+            trap,
+            process,
+            module: bases.iter().position(|&base| base == record[0])?,
+            pc: record[2],
+        })
+    }
+}
+
+impl fmt::Display for Told {
+    fn fmt(&self, f: &mut fmt::Formatter) -> fmt::Result {
+        let Told {
+            trap,
+            process,
+            module,
+            pc,
+        } = self;
+        writeln!(f, "caught {trap} process {process} module {module} pc {pc}")
+    }
+}
+
+/// The desk's run, or the first refusal.
+fn desk_run(image: &[u8], requests: u16, after: u32) -> Result<Desk, u8> {
     const WORDS: usize = 4_096;
     const STEPS: u32 = 1_000;
     const ENTRIES: usize = 16_384;
@@ -197,7 +298,12 @@ fn desk_run(image: &[u8], requests: u16, after: u32) -> Result<(RunAnswer, [u16;
     };
     let answer = run_after(machine, requests, after.min(STEPS), STEPS, run);
     match answer.number {
-        number::SPENT.. => Ok((answer, outputs)),
+        number::SPENT.. => Ok(Desk {
+            answer,
+            outputs,
+            store,
+            modules: image::parse(image)?.modules.len(),
+        }),
         refusal => Err(refusal),
     }
 }
@@ -221,18 +327,4 @@ fn run_after(
         count: first.count + second.count,
         ..second
     }
-}
-
-/// The two lines of a reading.
-fn reading(answer: &RunAnswer, outputs: &[u16; 16]) -> String {
-    let Machine {
-        module, pc, depth, ..
-    } = answer.machine;
-    format!(
-        "stop {} code {} steps {} module {module} pc {pc} depth {depth}\n{}\n",
-        answer.number,
-        answer.code,
-        answer.count,
-        outputs.map(|word| word.to_string()).join(" "),
-    )
 }

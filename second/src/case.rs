@@ -43,8 +43,7 @@
 use crate::api::{self, Buffers, LoadAnswer, RunAnswer};
 use crate::exec::Observer;
 use crate::machine::Machine;
-use crate::number::PROCESS;
-use crate::request::{highest, open, HELD};
+use crate::request::{bit, highest, open, HELD};
 use std::fmt;
 
 const MAGIC: u16 = 0x4D43;
@@ -120,6 +119,22 @@ pub struct RunOutcome {
     pub after: Vec<u16>,
     pub answer: RunAnswer,
     pub outputs: Vec<u16>,
+    /// The traps that were caught, in their order.
+    pub caught: Vec<Caught>,
+}
+
+/// A trap that was caught.
+#[derive(Clone, Copy, Debug, PartialEq, Eq)]
+pub struct Caught {
+    pub trap: u8,
+    /// The machine at the trap, and the one that went on.
+    pub old: Machine,
+    pub new: Machine,
+    /// The line that failed, if the trap is not of the instruction.
+    pub line: Option<u8>,
+    /// How many steps the run had made before, and the lines among them.
+    pub count: u32,
+    pub behind: u16,
 }
 
 impl RunOutcome {
@@ -130,7 +145,15 @@ impl RunOutcome {
 
     /// Whether an instruction is the only step.
     pub fn is_instruction(&self) -> bool {
-        self.answer.count == 1 && self.taken() == 0
+        self.answer.count == 1 && self.taken() == 0 && self.caught.is_empty()
+    }
+
+    /// The caught trap that is the only step, if one is.
+    pub fn caught_alone(&self) -> Option<&Caught> {
+        match (self.answer.count, &self.caught[..]) {
+            (1, [caught]) => Some(caught),
+            _ => None,
+        }
     }
 
     /// The line that is the only step, if one is.
@@ -157,10 +180,42 @@ impl RunOutcome {
 
     /// The line whose transfer failed, if one did: what it found is left.
     pub fn failed(&self) -> Option<u8> {
-        match self.answer.number {
-            PROCESS => highest(self.open_after()),
-            _ => None,
-        }
+        self.answer.failed_line(&self.after)
+    }
+}
+
+/// Hands on what it sees, and keeps the traps that are caught.
+struct Keeping<'a, O> {
+    observer: &'a mut O,
+    caught: Vec<Caught>,
+    /// The steps so far, and the lines among them.
+    count: u32,
+    taken: u16,
+}
+
+impl<O: Observer> Observer for Keeping<'_, O> {
+    fn done(&mut self, opcode: u8) {
+        self.count += 1;
+        self.observer.done(opcode);
+    }
+
+    fn taken(&mut self, line: u8) {
+        self.count += 1;
+        self.taken |= bit(line);
+        self.observer.taken(line);
+    }
+
+    fn caught(&mut self, trap: u8, line: Option<u8>, old: &Machine, new: &Machine) {
+        self.caught.push(Caught {
+            trap,
+            old: *old,
+            new: *new,
+            line,
+            count: self.count,
+            behind: self.taken,
+        });
+        self.count += 1;
+        self.observer.caught(trap, line, old, new);
     }
 }
 
@@ -194,7 +249,14 @@ pub fn replay<O: Observer>(case: &Case, observer: &mut O) -> Outcome {
         };
         let handed = run.machine.unwrap_or(machine);
         let requests = run.requests.unwrap_or(left);
-        let answer = api::run_observed(handed, buffers, requests, run.budget, observer);
+        let mut keeping = Keeping {
+            observer: &mut *observer,
+            caught: Vec::new(),
+            count: 0,
+            taken: 0,
+        };
+        let answer = api::run_observed(handed, buffers, requests, run.budget, &mut keeping);
+        let caught = keeping.caught;
         (machine, left) = (answer.machine, answer.requests);
         outcome.runs.push(RunOutcome {
             handed,
@@ -203,6 +265,7 @@ pub fn replay<O: Observer>(case: &Case, observer: &mut O) -> Outcome {
             after: store.clone(),
             answer,
             outputs: outputs.clone(),
+            caught,
         });
     }
     outcome

@@ -1,5 +1,5 @@
-//! What cases reach of changes of process, by TRANSFER or by a line: whether the
-//! words that are read and written are the same ones.
+//! What cases reach of changes of process, by TRANSFER, by a line or by a trap:
+//! whether the words that are read and written are the same ones.
 
 use crate::coverage::{named, Reached};
 use crate::machine::Machine;
@@ -114,7 +114,7 @@ impl Change<'_> {
     }
 
     /// "S = s−1−k": from S up the words that were restored, and their count.
-    fn target_stack(&self) -> Range<usize> {
+    pub fn target_stack(&self) -> Range<usize> {
         range(self.new.s, usize::from(self.new.depth) + 1)
     }
 
@@ -122,7 +122,7 @@ impl Change<'_> {
         record(self.old.p)
     }
 
-    fn target_record(&self) -> Range<usize> {
+    pub fn target_record(&self) -> Range<usize> {
         record(self.new.p)
     }
 }

@@ -1,7 +1,7 @@
 //! What generated cases reach: opcodes, traps of opcodes, refusals, what A.2
 //! makes of result counts, what A.3 makes of code that is not whole, what
 //! collides in transfers, what A.5 makes of saved depths, what A.6 makes of
-//! unsigned results, and what A.7 makes of lines.
+//! unsigned results, what A.7 makes of lines, and what A.8 makes of traps.
 
 use crate::case::{replay, Case};
 use crate::exec::Observer;
@@ -17,6 +17,7 @@ use crate::requests::Requests;
 use crate::results::Results;
 use crate::saved::Expressions;
 use crate::transfers::Transfers;
+use crate::traps::Traps;
 use crate::unsigned::Unsigned;
 use crate::whole::Whole;
 use std::fmt::Write;
@@ -40,6 +41,7 @@ pub struct Coverage {
     unsigned: Unsigned,
     clock_lines: ClockLines,
     requests: Requests,
+    traps: Traps,
     cases: u64,
 }
 
@@ -59,12 +61,15 @@ pub struct Steps {
     pub opcodes: [u64; 256],
     /// Of each line.
     pub lines: [u64; 16],
+    /// Of each trap that is caught.
+    pub traps: [u64; PROGRAM as usize + 1],
 }
 
 impl Steps {
     pub const NONE: Steps = Steps {
         opcodes: [0; 256],
         lines: [0; 16],
+        traps: [0; PROGRAM as usize + 1],
     };
 }
 
@@ -75,6 +80,10 @@ impl Observer for Steps {
 
     fn taken(&mut self, line: u8) {
         self.lines[usize::from(line)] += 1;
+    }
+
+    fn caught(&mut self, trap: u8, _: Option<u8>, _: &Machine, _: &Machine) {
+        self.traps[usize::from(trap)] += 1;
     }
 }
 
@@ -101,6 +110,16 @@ fn failing(first: u16, words: usize) -> usize {
         first if first + 1 == words => 1,
         _ => 2,
     }
+}
+
+/// The traps of opcodes: those of each that can trap.
+pub fn traps_of_opcodes() -> impl Iterator<Item = (u8, u8)> {
+    let of = |opcode: u8| {
+        possible_stops(opcode)
+            .iter()
+            .map(move |&stop| (opcode, stop))
+    };
+    (0..=255).flat_map(of).filter(|&(_, stop)| stop != ENDED)
 }
 
 /// The end and the traps that an opcode can stop with. (102–117 and 122–137
@@ -148,6 +167,7 @@ impl Coverage {
             unsigned: Unsigned::default(),
             clock_lines: ClockLines::default(),
             requests: Requests::default(),
+            traps: Traps::default(),
             cases: 0,
         };
         cases.for_each(|case| coverage.add(&case));
@@ -167,6 +187,7 @@ impl Coverage {
         self.unsigned.add(case, &outcome);
         self.clock_lines.add(case, &outcome);
         self.requests.add(case, &outcome);
+        self.traps.add(case, &outcome);
         for run in outcome.runs {
             let answer = run.answer;
             match answer.number {
@@ -236,7 +257,7 @@ impl Coverage {
         faults
     }
 
-    /// What was reached of A.2, of A.3, of transfers, of A.5, of A.6 and of A.7.
+    /// What was reached of A.2, of A.3, of transfers, and of A.5 to A.8.
     fn kinds(&self) -> impl Iterator<Item = Reached> {
         let mut lines = self.results.reached();
         lines.extend(self.whole.reached());
@@ -246,6 +267,7 @@ impl Coverage {
         lines.extend(self.unsigned.reached());
         lines.extend(self.clock_lines.reached());
         lines.extend(self.requests.reached());
+        lines.extend(self.traps.reached());
         lines.into_iter()
     }
 

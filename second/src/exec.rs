@@ -26,6 +26,9 @@ pub trait Observer {
     fn done(&mut self, opcode: u8);
     /// A line is taken.
     fn taken(&mut self, line: u8);
+    /// A trap is caught: of the instruction, or of the line that failed. These are
+    /// the machine at the trap and the one that goes on.
+    fn caught(&mut self, trap: u8, line: Option<u8>, old: &Machine, new: &Machine);
 }
 
 /// Sees nothing.
@@ -35,6 +38,9 @@ impl Observer for () {
 
     #[inline(always)]
     fn taken(&mut self, _: u8) {}
+
+    #[inline(always)]
+    fn caught(&mut self, _: u8, _: Option<u8>, _: &Machine, _: &Machine) {}
 }
 
 /// What the loop uses of the module that it is in.
@@ -59,24 +65,50 @@ impl<'a> Here<'a> {
     }
 }
 
+/// Steps until a stop that is no trap, or a trap that is not caught. A.8: a trap that
+/// is caught "counts as a step", and the run goes on. It comes before n steps are
+/// done, so that one is left for it. The code of 40 is lost, and the bit of a line
+/// that failed is kept.
+pub fn execute<O: Observer>(
+    program: &Program,
+    mut lent: Lent,
+    machine: Machine,
+    requests: u16,
+    n: u32,
+    observer: &mut O,
+) -> RunAnswer {
+    let mut answer = until_stop(program, &mut lent, machine, requests, n, observer);
+    loop {
+        let line = answer.failed_line(lent.store);
+        let Some(resumed) = catch_trap(program, lent.map, lent.store, &answer) else {
+            return answer;
+        };
+        observer.caught(answer.number, line, &answer.machine, &resumed);
+        let count = answer.count + 1;
+        let (left, n) = (answer.requests, n - count);
+        answer = until_stop(program, &mut lent, resumed, left, n, observer);
+        answer.count += count;
+    }
+}
+
 /// Steps until a stop: 30 after n steps, 31 at the end, or a trap. A line that is
 /// open comes before the instruction, also before an end or a trap. "A trap or
 /// an end leaves everything as before its instruction", so every arm below
 /// stops before it alters anything. Not inlined: the loop wants all registers.
 #[inline(never)]
-pub fn execute<O: Observer>(
+fn until_stop<O: Observer>(
     program: &Program,
-    lent: Lent,
+    lent: &mut Lent,
     machine: Machine,
     mut requests: u16,
     n: u32,
     observer: &mut O,
 ) -> RunAnswer {
-    let Lent {
+    let &mut Lent {
         image,
         map,
-        store,
-        outputs,
+        ref mut store,
+        ref mut outputs,
         inputs,
     } = lent;
     let Machine {
@@ -786,6 +818,31 @@ fn take_line(
     change_process(program, map, store, machine, change)
 }
 
+/// A.8: "If word 14 is not 0 and not P, traps 32 to 40 write their number to word
+/// P + 6 and then transfer as for a line, with words 14 and 15". The machine stands
+/// at "the trapping instruction", or where a line's transfer failed at the one "about
+/// to run", with the whole stack. Answers the machine that goes on, or None: "30 and
+/// 31 are no traps", and "If that transfer would itself fail, the run stops with the
+/// first trap and nothing is changed."
+fn catch_trap(
+    program: &Program,
+    map: &[u32],
+    store: &mut [u16],
+    stop: &RunAnswer,
+) -> Option<Machine> {
+    let old = stop.machine;
+    // "The target and its record are read from the store as before the trap."
+    let q = store[Machine::TRAP_TARGET];
+    if stop.number < number::ADDRESS || q == 0 || q == old.p {
+        return None;
+    }
+    let restored = read_process(program, map, store, q)?;
+    // "the number to P + 6 first, then the save as for a line"
+    store[usize::from(old.p) + Machine::TRAP_NUMBER] = stop.number.into();
+    save_process(program, store, old, Machine::TRAP_OLD);
+    Some(restored)
+}
+
 /// What TRANSFER and a line say about a change of process.
 struct Change {
     /// The word that names the target.
@@ -802,7 +859,7 @@ fn change_process(
     program: &Program,
     map: &[u32],
     store: &mut [u16],
-    mut old: Machine,
+    old: Machine,
     change: Change,
 ) -> Result<Machine, u8> {
     let q = store[change.to];
@@ -818,20 +875,24 @@ fn change_process(
     if !change.mask {
         restored.m = old.m;
     }
-    // "Then save: the remaining stack from S up, top first, then its count; S
-    // raised past it; G, L, next position, M, S, H+24 to P..P+5. Word c = P;
-    // P = q. [...] Colliding writes keep the last in this order."
+    save_process(program, store, old, change.from);
+    Ok(restored)
+}
+
+/// "Then save: the remaining stack from S up, top first, then its count; S raised
+/// past it; G, L, next position, M, S, H+24 to P..P+5. Word c = P; P = q. [...]
+/// Colliding writes keep the last in this order." Word c is the word `from`.
+fn save_process(program: &Program, store: &mut [u16], mut old: Machine, from: usize) {
     old.s = save(store, old.s, &old.stack[..usize::from(old.depth)]);
     let base = program.modules[usize::from(old.module)].base as u16;
     let record = [base, old.l, old.pc, old.m, old.s, old.h + Machine::MARGIN];
     store[usize::from(old.p)..][..record.len()].copy_from_slice(&record);
-    store[change.from] = old.p;
-    Ok(restored)
+    store[from] = old.p;
 }
 
-/// The process whose record is at q, or None for trap 35: "q+8 ≤ W; words q..
-/// are G, L, position, M, s, v; 24 ≤ v ≤ W; 1 ≤ s ≤ W; k = word s−1, k ≤ 16,
-/// k < s; s−1−k ≤ v−24; G a base, position marked k there".
+/// The process whose record is at q, or None where a transfer to it fails: "q+8 ≤ W;
+/// words q.. are G, L, position, M, s, v; 24 ≤ v ≤ W; 1 ≤ s ≤ W; k = word s−1,
+/// k ≤ 16, k < s; s−1−k ≤ v−24; G a base, position marked k there".
 fn read_process(program: &Program, map: &[u32], store: &[u16], q: u16) -> Option<Machine> {
     let record = store.get(usize::from(q)..usize::from(q) + Machine::RECORD)?;
     let &[g, l, position, m, s, v, ..] = record else {

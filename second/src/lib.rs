@@ -1,5 +1,5 @@
 //! A second interpreter of M-code, written from the paper and its change
-//! requests A.1 to A.7 alone, against which another engine is compared.
+//! requests A.1 to A.8 alone, against which another engine is compared.
 //!
 //! [`load`], [`start`] and [`run`] are the paper's calls, [`desk`] is its "A
 //! whole reading". Octal literals are the paper's opcodes, and quotations in
@@ -28,6 +28,7 @@ pub mod requests;
 pub mod results;
 pub mod saved;
 pub mod transfers;
+pub mod traps;
 pub mod unsigned;
 pub mod walk;
 pub mod whole;

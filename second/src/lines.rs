@@ -187,25 +187,25 @@ struct Past {
 }
 
 /// What a run has to do with: its case, the program and the map that it was lent.
-struct Setting<'a> {
-    case: &'a Case,
-    program: &'a Program,
-    map: &'a [u32],
+pub struct Setting<'a> {
+    pub case: &'a Case,
+    pub program: &'a Program,
+    pub map: &'a [u32],
 }
 
 impl Setting<'_> {
     /// The depths saved where a machine stands.
-    fn saved(&self, machine: &Machine) -> Saved {
+    pub fn saved(&self, machine: &Machine) -> Saved {
         let mark = machine.mark(self.program, self.map);
         mark.expect("it stands at a mark").saved
     }
 
-    fn opcode(&self, machine: &Machine) -> u8 {
+    pub fn opcode(&self, machine: &Machine) -> u8 {
         machine.opcode(self.program, &self.case.image)
     }
 
     /// What one step would make of a machine.
-    fn step(&self, machine: Machine, store: &[u16], requests: u16) -> RunAnswer {
+    pub fn step(&self, machine: Machine, store: &[u16], requests: u16) -> RunAnswer {
         let buffers = Buffers {
             image: &self.case.image,
             map: self.map,

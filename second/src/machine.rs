@@ -43,6 +43,12 @@ impl Machine {
     pub const END_MARK: u16 = 0x7FFF;
     /// Added to the return mark of an external call.
     pub const FAR: u16 = 0x8000;
+    /// A.8: "as for a line, with words 14 and 15": the target of a trap, and the old
+    /// process.
+    pub const TRAP_TARGET: usize = 14;
+    pub const TRAP_OLD: usize = 15;
+    /// "write their number to word P + 6"
+    pub const TRAP_NUMBER: usize = 6;
 
     /// The opcode at which it stands. Its position lies in the code.
     pub fn opcode(&self, program: &Program, image: &[u8]) -> u8 {

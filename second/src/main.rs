@@ -19,7 +19,8 @@ A second interpreter of M-code.
 usage: second reading [--requests WORD] [--after N] [FILE]
            print the desk's reading of an image, from FILE or standard input;
            with a word of requests that is not 0, which is given after N
-           steps, also what is left of it
+           steps, also what is left of it; and where the store tells of a
+           caught trap, its number, its process, its module and its position
        second map FILE
            print load's number; for 13 also the module, the position and the
            cause; and if it accepts, the map in hex, eight digits an entry:
@@ -29,7 +30,7 @@ usage: second reading [--requests WORD] [--after N] [FILE]
        second coverage [--small] [--seed N] [--cases N]
            replay generated cases and print what they reach; exit 1 if an
            opcode, a stop, a refusal, a collision of a transfer or a kind of
-           A.2, A.3, A.5, A.6 or A.7 is missing
+           A.2, A.3, A.5, A.6, A.7 or A.8 is missing
        second coverage CASES
            the same for the cases of a file
        second cases [--small] [--seed N] [--count N] OUT

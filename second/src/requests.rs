@@ -3,7 +3,7 @@
 
 use crate::case::{Case, CaseRun, Outcome, RunOutcome};
 use crate::coverage::{named, Reached, RUN};
-use crate::number::{PROCESS, SPENT};
+use crate::number::SPENT;
 use crate::request::{HELD, LINES};
 
 /// Counts of what was reached; each must be. Steps are seen where they are the
@@ -90,21 +90,16 @@ impl Requests {
         let (m, held) = (made.handed.m, made.before[HELD]);
         self.at_first[0] += u64::from(taken & m & !held != 0);
         self.at_first[1] += u64::from(taken & held & !m != 0);
-        if made.answer.number == PROCESS && made.failed().is_some() {
-            let behind = match (made.answer.count, taken) {
-                (0, _) => 0,
-                (_, 0) => 2,
-                _ => 1,
-            };
+        if let (Some(behind), Some(_)) = (behind(made), made.failed()) {
             self.behind[behind] += 1;
         }
         self.open[0] += u64::from(run.budget == 0 && made.open_before() != 0);
-        if made.answer.count == 1 {
+        if made.line().is_some() || made.is_instruction() {
             self.add_step(made);
         }
     }
 
-    /// A run of one step.
+    /// A run of one step, a line or an instruction.
     fn add_step(&mut self, run: &RunOutcome) {
         let (m, held) = (run.handed.m, run.before[HELD]);
         let is_spent = run.answer.number == SPENT && run.open_after() != 0;
@@ -156,6 +151,16 @@ impl Requests {
 fn add_bits(counts: &mut [u64; 8], bits: u16) {
     for (i, count) in counts.iter_mut().enumerate() {
         *count += u64::from(bits >> i & 1);
+    }
+}
+
+/// The index in [`BEHIND`] of what a run has done, if it has caught no trap.
+fn behind(run: &RunOutcome) -> Option<usize> {
+    match (run.answer.count, run.taken()) {
+        _ if !run.caught.is_empty() => None,
+        (0, _) => Some(0),
+        (_, 0) => Some(2),
+        _ => Some(1),
     }
 }
 

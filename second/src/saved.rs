@@ -127,7 +127,7 @@ impl Expressions {
                     let known = (count == 0).then_some(run);
                     self.add_stop(&at(&made.answer.machine), made, known);
                 }
-                (SPENT.., 1) if made.taken() == 0 => {
+                _ if made.is_instruction() => {
                     let [from, to] = [&made.handed, &made.answer.machine].map(at);
                     self.add_step(&from, &to, made, &mut frames);
                 }

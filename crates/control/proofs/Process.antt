@@ -1,22 +1,23 @@
 -- Laws of processes in the store: their tests, and their record word by word. Assumes nothing.
 use mathlib.Core.Path.{_≡_, refl, ap, _∙_}
-use mathlib.Core.Bool.{Bool, true, false}
+use mathlib.Core.Bool.{Bool, true, false, not}
 use mathlib.Core.List.{List, [], _∷_}
 use Prim.Native.Nat.{ℕ, _+_, _-_, _<_, _≤_}
 use native.Mathlib.Omega.{arith}
-use lib.Dec.{ltb, leb}
-use lib.ListN.{length, set, replicate}
+use lib.Dec.{ltb, leb, eqb}
+use lib.ListN.{length, getD, set, replicate}
 use borrow.Author.Tests.{leb-true, ltb-true}
-use Rattle.mcode.specs.Word.{and}
-use Rattle.mcode.specs.Machine.{position}
-use Rattle.mcode.specs.Step.{Lent, Process, processAt, isProcess, standing, unitBased, restored, written, savedStore, restoredMachine, changed, switched}
+use Rattle.mcode.specs.declared.Stop.{Stop}
+use Rattle.mcode.specs.Word.{pick, and, or}
+use Rattle.mcode.specs.Machine.{State, go, position, stopNumber, stopCode}
+use Rattle.mcode.specs.Step.{Lent, Process, processAt, isProcess, standing, unitBased, restored, written, savedStore, restoredMachine, isTarget, changed, switched, isCaught, caught, trapped}
 use Rattle.mcode.proofs.Tests.{and-both}
 use Rattle.actions.specs.declared.Core.{Core}
 use Rattle.actions.specs.declared.Stepped.{Stepped}
 use Rattle.actions.specs.Core.{held, leftBy, result, stepped}
 use Rattle.actions.specs.Table.{Anchored, Lends}
 use Rattle.control.specs.Table.{firstBased, standsIn, Mapped}
-use Rattle.control.specs.Transfer.{sized, targetIn, resumed}
+use Rattle.control.specs.Transfer.{sized, targetIn, catcherIn, resumed}
 use Rattle.control.proofs.Laws.{based, from-start}
 use Rattle.control.proofs.Find.{find-stands, find, stands-few}
 
@@ -113,20 +114,82 @@ module _ (table marks store : List ℕ) (q : ℕ) where
             let l = stands-few table marks (firstBased table (x .g)) (x .pc) (x .k) m (and-both (sized (length store) q x) _ e .1) in
             absurd (let c : ⊥ = omega (arith, l, rw e at z) in c)
 
-module _ {bytes table marks words : List ℕ} {lent : Lent} (h : Lends bytes table marks words lent) (r : Core) (b to n c q : ℕ) (stack store out : List ℕ) where
-  -- a transfer to a process that passes the tests, and one that is 35
-  pub switched-in : Anchored table r → (targetIn table marks store q ≡ 32 → ⊥)
-      → leftBy (held r stack store out) (switched lent b (position to) n c q (held r stack store out))
+module _ {bytes table marks words : List ℕ} {lent : Lent} (h : Lends bytes table marks words lent) (r : Core) (q : ℕ) (stack store out : List ℕ) where
+  abbrev x : State
+  x = held r stack store out
+
+  is-target : (targetIn table marks store q ≡ 32 → ⊥) → isTarget lent q x ≡ true
+  is-target t = process-in h (length store) q (processAt store q) ∙ passes table marks store q t .0
+
+  no-target : Mapped table marks → targetIn table marks store q ≡ 32 → isTarget lent q x ≡ false
+  no-target m z = process-in h (length store) q (processAt store q) ∙ fails table marks store q m z
+
+  -- the change to a process that passes the tests, with the old one saved over whichever store
+  changed-in : Anchored table r → (targetIn table marks store q ≡ 32 → ⊥) → (b to n c : ℕ) (over : List ℕ)
+      → leftBy x (go (changed lent b (position to) n c q over x))
+      ≡ result (stepped 0 0 (resumed table (targetIn table marks store q) b q (processAt store q) r))
+      (restored store (processAt store q .k) (processAt store q .s - 1 - processAt store q .k) (replicate 16 0))
+      (savedStore (r .g .0) (position to) c (held r stack over []) n) out
+  unfolding changed restoredMachine savedStore
+  changed-in a t b to n c over =
+      let (p, f) = passes table marks store q t in
+      let e = and-both (sized (length store) q (processAt store q)) _ p .1 in
+      rw (f, find h _ _ _ e, based (h .tabled) a .own, from-start)
+
+  -- a transfer to it, and one that is 35
+  pub switched-in : Anchored table r → (targetIn table marks store q ≡ 32 → ⊥) → (b to n c : ℕ)
+      → leftBy x (switched lent b (position to) n c q x)
       ≡ result (stepped 0 0 (resumed table (targetIn table marks store q) b q (processAt store q) r))
       (restored store (processAt store q .k) (processAt store q .s - 1 - processAt store q .k) (replicate 16 0))
       (savedStore (r .g .0) (position to) c (held r stack store []) n) out
-  unfolding switched changed restoredMachine savedStore
-  switched-in a t =
-      let (p, f) = passes table marks store q t in
-      let e = and-both (sized (length store) q (processAt store q)) _ p .1 in
-      rw (process-in h (length store) q (processAt store q), p, f, find h _ _ _ e, based (h .tabled) a .own, from-start)
-
-  pub switched-not : Mapped table marks → targetIn table marks store q ≡ 32
-      → leftBy (held r stack store out) (switched lent b (position to) n c q (held r stack store out)) ≡ result (stepped 35 0 r) stack store out
   unfolding switched
-  switched-not m z = rw (process-in h (length store) q (processAt store q), fails table marks store q m z)
+  switched-in a t b to n c = rw (is-target t) (changed-in a t b to n c store)
+
+  pub switched-not : Mapped table marks → targetIn table marks store q ≡ 32 → (b to n c : ℕ) → leftBy x (switched lent b (position to) n c q x) ≡ result (stepped 35 0 r) stack store out
+  unfolding switched
+  switched-not m z b to n c = rw (no-target m z)
+
+-- ---- a trap that the process in word 14 catches, and a stop that none does
+
+both : (t u : Bool) (v : ℕ) → (pick (and t u) v 32 ≡ 32 → ⊥) → (t ≡ true) × (u ≡ true)
+both true true v n = (refl, refl)
+both true false v n = absurd (n refl)
+both false u v n = absurd (n refl)
+
+not-all : (t u w : Bool) (v : ℕ) → (v ≡ 32 → w ≡ false) → pick (and t u) v 32 ≡ 32 → and t (and u w) ≡ false
+not-all true true w v f z = f z
+not-all true false w v f z = refl
+not-all false u w v f z = refl
+
+module _ (table marks store : List ℕ) (p number : ℕ) where
+  catches : (catcherIn table marks store p number ≡ 32 → ⊥) → (leb 32 number ≡ true) × (not (or (eqb (getD store 14 0) 0) (eqb (getD store 14 0) p)) ≡ true)
+  unfolding catcherIn
+  catches n = both (leb 32 number) _ (targetIn table marks store (getD store 14 0)) n
+
+  pub catcher-target : (catcherIn table marks store p number ≡ 32 → ⊥) → catcherIn table marks store p number ≡ targetIn table marks store (getD store 14 0)
+  unfolding catcherIn
+  catcher-target n = rw (catches n .0, catches n .1) refl
+
+module _ {bytes table marks words : List ℕ} {lent : Lent} (h : Lends bytes table marks words lent) (r : Core) (stack store out : List ℕ) (k : Stop) where
+  abbrev y : State
+  y = held r stack store out
+
+  abbrev c : ℕ
+  c = catcherIn table marks store (r .p .0) (stopNumber k)
+
+  pub trapped-in : Anchored table r → (c ≡ 32 → ⊥)
+      → leftBy y (trapped lent k y)
+      ≡ result (stepped 0 0 (resumed table c 1 (getD store 14 0) (processAt store (getD store 14 0)) r))
+      (restored store (processAt store (getD store 14 0) .k) (processAt store (getD store 14 0) .s - 1 - processAt store (getD store 14 0) .k) (replicate 16 0))
+      (savedStore (r .g .0) (position (r .pc - r .start)) 15 (held r stack (set store (r .p .0 + 6) (stopNumber k)) []) (r .depth)) out
+  unfolding trapped isCaught caught
+  trapped-in a n =
+      let (t, u) = catches table marks store (r .p .0) (stopNumber k) n in
+      let e = catcher-target table marks store (r .p .0) (stopNumber k) n in
+      let m : targetIn table marks store (getD store 14 0) ≡ 32 → ⊥ = not-so e n in
+      rw (t, u, is-target h r (getD store 14 0) stack store out m, e) (changed-in h r (getD store 14 0) stack store out a m 1 (r .pc - r .start) (r .depth) 15 (set store (r .p .0 + 6) (stopNumber k)))
+
+  pub trapped-not : Mapped table marks → c ≡ 32 → leftBy y (trapped lent k y) ≡ result (stepped (stopNumber k) (stopCode k) r) stack store out
+  unfolding trapped isCaught catcherIn
+  trapped-not m z =
+      rw (not-all (leb 32 (stopNumber k)) (not (or (eqb (getD store 14 0) 0) (eqb (getD store 14 0) (r .p .0)))) (isTarget lent (getD store 14 0) y) (targetIn table marks store (getD store 14 0)) (no-target h r (getD store 14 0) stack store out m) z) refl

@@ -1,10 +1,10 @@
 -- Transfers: the tests of a process that the store alone decides, the module that it is in, and the registers that it goes on with.
-use mathlib.Core.Bool.{Bool}
+use mathlib.Core.Bool.{Bool, not}
 use mathlib.Core.List.{List}
 use Prim.Native.Nat.{ℕ, _+_, _-_}
 use lib.Dec.{ltb, leb, eqb}
-use lib.ListN.{length}
-use Rattle.mcode.specs.Word.{pick, and}
+use lib.ListN.{length, getD}
+use Rattle.mcode.specs.Word.{pick, and, or}
 use Rattle.mcode.specs.Image.{margin}
 use Rattle.mcode.specs.Machine.{address}
 use Rattle.mcode.specs.Step.{Process, processAt}
@@ -26,6 +26,13 @@ unfoldable pub targetIn : List ℕ → List ℕ → List ℕ → ℕ → ℕ
 targetIn table map store q =
     let x = processAt store q in
     pick (and (sized (length store) q x) (standsIn table map (firstBased table (x .g)) (x .pc) (x .k))) (firstBased table (x .g)) 32
+
+-- the module of the process that catches a stop with this number, where P is p: "If word 14 is not 0 and not P, traps 32 to 40"; 32 where
+-- none does
+unfoldable pub catcherIn : List ℕ → List ℕ → List ℕ → ℕ → ℕ → ℕ
+catcherIn table map store p number =
+    let q = getD store 14 0 in
+    pick (and (leb 32 number) (not (or (eqb q 0) (eqb q p)))) (targetIn table map store q) 32
 
 -- the process x at q in module k; "M only if b /= 0"
 abbrev pub resumed : List ℕ → ℕ → ℕ → ℕ → Process → Core → Core

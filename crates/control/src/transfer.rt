@@ -1,4 +1,4 @@
-// Transfers, by 256 b and by a line: everything is read before anything is written.
+// Transfers, by 256 b, by a line and by a trap: everything is read before anything is written.
 use crate::saves::save_stack;
 use crate::saves::words_at;
 use crate::table::find_base;
@@ -17,16 +17,17 @@ ghost use mathlib.Core.Bool.{true};
 ghost use mathlib.Core.List.{List, [], _∷_};
 ghost use Prim.Native.Nat.{ℕ, _+_, _-_, _≤_, _<_};
 ghost use lib.Dec.{eqb};
-ghost use lib.ListN.{length, getD, replicate};
+ghost use lib.ListN.{length, getD, set, replicate};
 ghost use Rattle.mcode.specs.Word.{pick};
-ghost use Rattle.mcode.specs.Machine.{position};
+ghost use Rattle.mcode.specs.Machine.{position, stopNumber, stopCode};
 ghost use Rattle.mcode.specs.Decode as Act;
-ghost use Rattle.mcode.specs.Step.{Lent, processAt, restored, written, savedStore, takenLine};
+ghost use Rattle.mcode.specs.Step.{Lent, processAt, restored, written, savedStore, takenLine, trapped as trapOf};
+ghost use Rattle.mcode.specs.declared.Stop.{Stop};
 ghost use Rattle.actions.specs.Core.{held, result, leftBy, acted, stepped};
 ghost use Rattle.actions.specs.Table.{Anchored, Lends};
 ghost use Rattle.control.specs.Table.{Mapped};
 ghost use Rattle.control.specs.Frames.{Framed, Roomy};
-ghost use Rattle.control.specs.Transfer.{sized, targetIn, resumed};
+ghost use Rattle.control.specs.Transfer.{sized, targetIn, catcherIn, resumed};
 
 fn word_at(store: &[u16], i: usize) -> u16
     requires { ⌜ i < length (now store) ⌝ }
@@ -285,4 +286,97 @@ pub fn take_line(
     let d = r.depth;
     let to = r.pc;
     change(r, table, stack, store, k, 1, q, d, from + 1, to)
+}
+
+// The module of the process that catches a stop with this number: that of word 14, where the stop is a trap and the word is not 0 and not
+// P, which is p; 32 where none can.
+fn catcher(table: &[u16; 193], map: &[u32], store: &[u16], p: u16, number: u32) -> usize
+    requires { ⌜ Mapped (now table) (now map) ⌝ }
+    requires { ⌜ 32 ≤ length (now store) ⌝ }
+    ensures { λ k. ⌜ k ≡ catcherIn (now (table .entry)) (now (map .entry)) (now (store .entry)) p number ⌝ }
+{
+    if number < 32 {
+        return 32;
+    }
+    let q = word_at(store, 14);
+    if q == 0 {
+        return 32;
+    }
+    if q == p {
+        return 32;
+    }
+    target(table, map, store, q)
+}
+
+// The registers of the process at q, which is in module k, as they are before the number of the trap goes to word P + 6.
+fn resume_noted(
+    r: Core,
+    table: &[u16; 193],
+    store: &mut [u16],
+    k: usize,
+    q: u16,
+    number: u16,
+) -> Stepped
+    requires { ⌜ (k < 32) × (sized (length (now store)) q (processAt (now store) q) ≡ true) × (r .p .0 + 8 ≤ length (now store)) ⌝ }
+    ensures { λ x. ⌜ (x ≡ stepped 0 0 (resumed (now (table .entry)) k 1 q (processAt (now (store .entry)) q) r)) × (now (store .exit) ≡ set (now (store .entry)) (r .p .0 + 6) number) ⌝ }
+{
+    let p = r.p.0 as usize;
+    let next = resume(r, table, store, k, 1, q);
+    store[p + 6] = number;
+    next
+}
+
+// To the process whose record is at q, in module k, as `change` does, with the whole stack saved and the number of the trap in word P + 6:
+// it is written when the other process is read, and before this one is saved.
+fn change_noted(
+    r: Core,
+    table: &[u16; 193],
+    stack: &mut [u16; 16],
+    store: &mut [u16],
+    k: usize,
+    q: u16,
+    number: u16,
+) -> Stepped
+    requires { ⌜ (k < 32) × (sized (length (now store)) q (processAt (now store) q) ≡ true) ⌝ }
+    requires { ⌜ Roomy (length (now store)) r ⌝ }
+    requires { ⌜ (r .depth ≤ 16) × (32 ≤ length (now store)) × (r .start ≤ r .pc) × (r .pc - r .start < 65536) ⌝ }
+    ensures { λ x. ⌜ (x ≡ stepped 0 0 (resumed (now (table .entry)) k 1 q (processAt (now (store .entry)) q) r)) × (now (stack .exit) ≡ restored (now (store .entry)) (processAt (now (store .entry)) q .k) (processAt (now (store .entry)) q .s - 1 - processAt (now (store .entry)) q .k) (replicate 16 0)) × (now (store .exit) ≡ savedStore (r .g .0) (position (r .pc - r .start)) 15 (held r (now (stack .entry)) (set (now (store .entry)) (r .p .0 + 6) number) []) (r .depth)) ⌝ }
+{
+    let s = word_at(store, q as usize + 4) as usize;
+    let n = word_at(store, s - 1) as usize;
+    let words = words_at(store, s - 1 - n, n);
+    let next = resume_noted(r, table, store, k, q, number);
+    let d = r.depth;
+    let to = r.pc;
+    save_process(r, stack, store, d, 15, to);
+    *stack = words;
+    next
+}
+
+// A stop with this number and code: a trap goes to the process in word 14, as line 7 would; where none catches it, it is the stop.
+pub fn catch_trap(
+    r: Core,
+    table: &[u16; 193],
+    map: &[u32],
+    stack: &mut [u16; 16],
+    store: &mut [u16],
+    number: u32,
+    code: u16,
+) -> Stepped
+    requires { ⌜ Mapped (now table) (now map) ⌝ }
+    requires { ⌜ Framed (now table) (length (now store)) r ⌝ }
+    requires { ⌜ Anchored (now table) r ⌝ }
+    requires { ⌜ (number < 65536) × (32 ≤ length (now store)) × (r .pc - r .start < 65536) ⌝ }
+    ensures { λ x. ⌜ ((lent : Lent) (bytes words : List ℕ) → Lends bytes (now (table .entry)) (now (map .entry)) words lent → (j : Stop) → stopNumber j ≡ number → stopCode j ≡ code → (out : List ℕ) → result x (now (stack .exit)) (now (store .exit)) out ≡ leftBy (held r (now (stack .entry)) (now (store .entry)) out) (trapOf lent j (held r (now (stack .entry)) (now (store .entry)) out))) × Anchored (now (table .entry)) (x .core) ⌝ }
+{
+    let k = catcher(table, map, store, r.p.0, number);
+    if k == 32 {
+        return Stepped {
+            stop: number,
+            code,
+            core: r,
+        };
+    }
+    let q = word_at(store, 14);
+    change_noted(r, table, stack, store, k, q, number as u16)
 }

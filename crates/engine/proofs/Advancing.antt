@@ -1,4 +1,4 @@
--- A turn of the loop that takes lines: a line that is taken or fails, and a stretch of instructions. Assumes nothing.
+-- A turn of the loop that takes lines: a line that is taken or fails, and a stretch of instructions; and such a loop. Assumes nothing.
 use mathlib.Core.Path.{_≡_, refl, sym, ap, ap₂, _∙_, subst}
 use mathlib.Core.Logic.{_⊎_, inl, inr, ⊎-elim}
 use mathlib.Core.Bool.{Bool, true, false}
@@ -10,15 +10,16 @@ use lib.ListN.{length}
 use borrow.Author.Tests.{ltb-true, eqb-true, eqb-false}
 use Rattle.mcode.specs.Word.{pick, bit}
 use Rattle.mcode.specs.Machine.{State, Live, live, OutcomeOf, go, halt, leaving}
-use Rattle.mcode.specs.Step.{Lent, instructionOf, lineOf, takenLine, stepOf}
+use Rattle.mcode.specs.Step.{Lent, instructionOf, lineOf, takenLine, attemptOf}
 use Rattle.mcode.specs.Run.{RunEnd, after, runN, lentTo}
-use Rattle.mcode.specs.Demands.{HighestLine, QuietRuns, holding, Preserves}
+use Rattle.mcode.specs.Demands.{HighestLine, holding, Preserves}
 use Rattle.mcode.specs.declared.Stop.{Stop}
 use Rattle.mcode.specs.declared.Stop.the-variants.{Spent}
 use Rattle.mcode.proofs.Compose as compose
 use Rattle.mcode.proofs.Tests.{and-both}
 use Rattle.mcode.proofs.Points.{preserves}
-use Rattle.mcode.proofs.Requests.{highest-line, line-step, below-lineless, quiet-runs, quiet-one, quiet-none}
+use Rattle.mcode.proofs.Requests.{highest-line, line-step, below-lineless, quiet-attempts, quiet-one, quiet-none}
+use Rattle.mcode.proofs.Traps.{step-goes-on}
 use Rattle.actions.specs.declared.Core.{Core}
 use Rattle.actions.specs.declared.Stepped.{Stepped}
 use Rattle.actions.specs.Core.{leftBy, held, result}
@@ -27,12 +28,12 @@ use Rattle.control.specs.Table.{Mapped}
 use Rattle.control.specs.Frames.{Framed}
 use Rattle.execute.specs.Stepping.{Prepared}
 use Rattle.execute.proofs.Fits.{asks-of}
-use Rattle.execute.proofs.Went.{Stopped, went-on, stopped}
+use Rattle.execute.proofs.Went.{Stopped, a-stop, went-on, stopped}
 use Rattle.engine.specs.declared.steps.Halted.{Halted}
 use Rattle.engine.specs.declared.steps.Advanced.{Advanced}
 use Rattle.engine.specs.Stops.{stopOf}
-use Rattle.engine.specs.Loops.{Ready, stretched, stretchOf, liveAt, Advances}
-use Rattle.engine.proofs.Turns.{stop-back, near, still}
+use Rattle.engine.specs.Loops.{Ready, Names, stretched, stretchOf, liveAt, Advances}
+use Rattle.engine.proofs.Turns.{stop-back, names, near, still}
 
 -- ---- a line
 
@@ -61,48 +62,50 @@ module _ (image table map inputs : List ℕ) (r : Core) (stack store outputs : L
       let n = near R in
       (A .mapped, (A .controls .framed, (R .anchored, (line-known .0, P .roomy, omega (arith, n)))))
 
-  step-is : {o : OutcomeOf State} → takenLine lent i x ≡ o → stepOf lent (live x w) ≡ leaving (w - 2 ^ i) o
+  step-is : {o : OutcomeOf State} → takenLine lent i x ≡ o → attemptOf lent (live x w) ≡ leaving (w - 2 ^ i) o
   step-is p =
       line-step lent (live x w) taken
       ∙ subst (λ (k : ℕ). leaving (w - 2 ^ lineOf (live x w)) (takenLine lent (lineOf (live x w)) x) ≡ leaving (w - 2 ^ k) (takenLine lent k x)) (sym is) refl ∙ ap (leaving (w - 2 ^ i)) p
 
   module _ (s : Stepped) (st so : List ℕ) (e : result s st so outputs ≡ leftBy (held r stack store outputs) (takenLine (lentTo image map inputs) i (held r stack store outputs))) (a : Anchored table (s .core)) where
-    went : s .stop ≡ 0 → stepOf lent (live x w) ≡ go (live (held (s .core) st so outputs) (w - 2 ^ i))
+    went : s .stop ≡ 0 → attemptOf lent (live x w) ≡ go (live (held (s .core) st so outputs) (w - 2 ^ i))
     went z = step-is (went-on x (takenLine lent i x) (result s st so outputs) e z)
 
     pub line-goes : s .stop ≡ 0 → (v : ℕ) → v ≡ w - 2 ^ i → let b : Advanced = record { stop = 0; code = 0; left = left - 1; requests = v; core = s .core } in
-        Advances (stepOf lent) left (live x w) b (liveAt b st so outputs)
+        Advances (attemptOf lent) left (live x w) b (liveAt b st so outputs)
     line-goes z v q =
         let n : left - (left - 1) ≡ 1 = omega (arith, h) in
         let m : left ≡ suc (left - 1) = omega (arith, h) in
         record {
           most = omega arith;
-          goes = λ f. ((omega (arith, h)), rw (n, q) (subst (λ (k : ℕ). runN (stepOf lent) k (live x w) ≡ after 1 (runN (stepOf lent) (left - 1) (live (held (s .core) st so outputs) (w - 2 ^ i)))) (sym m) (compose.run-go (stepOf lent) (left - 1) (live x w) _ (went z))));
+          goes = λ f. ((omega (arith, h)), rw (n, q) (subst (λ (k : ℕ). runN (attemptOf lent) k (live x w) ≡ after 1 (runN (attemptOf lent) (left - 1) (live (held (s .core) st so outputs) (w - 2 ^ i)))) (sym m) (compose.run-go (attemptOf lent) (left - 1) (live x w) _ (went z))));
           stops = λ f. absurd (f refl);
+          names = λ f. absurd (f refl);
         }
 
     pub line-keeps : s .stop ≡ 0 → Ready image table map (length so) (length outputs) (length inputs) (s .core) st
     unfolding Preserves
     line-keeps z =
-        let k = preserves lent (R .prepared .fits) (live x w) (live (held (s .core) st so outputs) (w - 2 ^ i)) (R .good) (R .outputs) (went z) in
+        let k = preserves lent (R .prepared .fits) (live x w) (live (held (s .core) st so outputs) (w - 2 ^ i)) (R .good) (R .outputs) (step-goes-on lent (live x w) _ (went z)) in
         record { prepared = subst (λ (n : ℕ). Prepared image table map n) (sym (k .1)) (R .prepared); good = k .0; anchored = a; outputs = R .outputs; inputs = R .inputs }
 
     module _ (n : s .stop ≡ 0 → ⊥) where
       fails : Stopped x (takenLine lent i x) (result s st so outputs)
       fails = stopped x (takenLine lent i x) (result s st so outputs) e n
 
-      pub line-fails : (v : ℕ) → v ≡ w → let b : Advanced = record { stop = s .stop; code = s .code; left = left; requests = v; core = s .core } in Advances (stepOf lent) left (live x w) b (liveAt b st so outputs)
+      pub line-fails : (v : ℕ) → v ≡ w → let b : Advanced = record { stop = s .stop; code = s .code; left = left; requests = v; core = s .core } in Advances (attemptOf lent) left (live x w) b (liveAt b st so outputs)
       line-fails v same =
           let k = fails .why in
           let z : left - left ≡ 0 = omega arith in
-          let t = compose.found (stepOf lent) left 0 (live x w) k (omega (arith, h)) (step-is (fails .halts)) in
+          let t = compose.found (attemptOf lent) left 0 (live x w) k (omega (arith, h)) (step-is (fails .halts)) in
           let g : stopOf (s .stop) (s .code) ≡ k = ap₂ stopOf (fails .number) (fails .code) ∙ stop-back k in
           record {
             most = omega arith;
             goes = λ f. absurd (n f);
             stops = λ f. ap₂ (λ (j : Stop) (u : State). record { stop = j; count = left - left; state = live u v }) g (fails .same)
                 ∙ ap (λ (q : ℕ). record { stop = k; count = left - left; state = live x q }) same
-                ∙ ap (λ (c : ℕ). record { stop = k; count = c; state = live x w }) z ∙ t ∙ sym (compose.begin (stepOf lent) left (live x w));
+                ∙ ap (λ (c : ℕ). record { stop = k; count = c; state = live x w }) z ∙ t ∙ sym (compose.begin (attemptOf lent) left (live x w));
+            names = λ f. names k (fails .number) (fails .code);
           }
 
       pub line-still : Ready image table map (length so) (length outputs) (length inputs) (s .core) st
@@ -123,13 +126,12 @@ module _ (lent : Lent) (x : State) (w left : ℕ) where
       by false false p = let z = eqb-false left 0 p in omega (arith, z)
 
   -- its steps are the definition's
-  same-stretch : (left ≡ 0) ⊎ (lineOf (live x w) ≡ 0) → runN (stepOf lent) n (live x w) ≡ holding w (runN (instructionOf lent) n x)
-  unfolding QuietRuns
+  same-stretch : (left ≡ 0) ⊎ (lineOf (live x w) ≡ 0) → runN (attemptOf lent) n (live x w) ≡ holding w (runN (instructionOf lent) n x)
   same-stretch c = by (ltb w 256) refl (eqb left 0) refl c
     where
       by : (t : Bool) → ltb w 256 ≡ t → (u : Bool) → eqb left 0 ≡ u → (left ≡ 0) ⊎ (lineOf (live x w) ≡ 0)
-          → runN (stepOf lent) (pick t left (pick u 0 1)) (live x w) ≡ holding w (runN (instructionOf lent) (pick t left (pick u 0 1)) x)
-      by true t u p c = quiet-runs lent left x w (below-lineless w (ltb-true w 256 t))
+          → runN (attemptOf lent) (pick t left (pick u 0 1)) (live x w) ≡ holding w (runN (instructionOf lent) (pick t left (pick u 0 1)) x)
+      by true t u p c = quiet-attempts lent left x w (below-lineless w (ltb-true w 256 t))
       by false t true p c = quiet-none lent x w
       by false t false p (inl z) = absurd (eqb-false left 0 p z)
       by false t false p (inr z) = quiet-one lent x w z
@@ -146,21 +148,21 @@ module _ (lent : Lent) (x : State) (w left : ℕ) where
     abbrev e : RunEnd State
     e = runN (instructionOf lent) n x
 
-    onward : runN (stepOf lent) left (live x w) ≡ after (e .count) (runN (stepOf lent) (left - e .count) (live (e .state) w))
-    onward = rw (same-stretch c) at (compose.goes-on (stepOf lent) n left (live x w) stretch-most)
+    onward : runN (attemptOf lent) left (live x w) ≡ after (e .count) (runN (attemptOf lent) (left - e .count) (live (e .state) w))
+    onward = rw (same-stretch c) at (compose.goes-on (attemptOf lent) n left (live x w) stretch-most)
 
     pub stretch-least : e .count ≤ left
     stretch-least = ⊎-elim (λ q. omega (arith, q .1, stretch-most)) (λ q. omega (arith, q .0, stretch-most)) (compose.run-ends (instructionOf lent) n x)
 
     -- it ends the run, unless all of it was done and more is left
-    ends : (e .count ≡ n → left ≤ e .count) → _≡_ {A = RunEnd Live} (record { stop = e .stop; count = e .count; state = live (e .state) w }) (runN (stepOf lent) left (live x w))
-    ends m = ⊎-elim spent found (rw (same-stretch c) at (compose.run-ends (stepOf lent) n (live x w)))
+    ends : (e .count ≡ n → left ≤ e .count) → _≡_ {A = RunEnd Live} (record { stop = e .stop; count = e .count; state = live (e .state) w }) (runN (attemptOf lent) left (live x w))
+    ends m = ⊎-elim spent found (rw (same-stretch c) at (compose.run-ends (attemptOf lent) n (live x w)))
       where
-        spent : (e .stop ≡ Spent) × (e .count ≡ n) → _≡_ {A = RunEnd Live} (record { stop = e .stop; count = e .count; state = live (e .state) w }) (runN (stepOf lent) left (live x w))
-        spent q = ap (λ (j : Stop). record { stop = j; count = e .count; state = live (e .state) w }) (q .0) ∙ compose.spent (stepOf lent) left (e .count) (live (e .state) w) (m (q .1)) ∙ sym onward
+        spent : (e .stop ≡ Spent) × (e .count ≡ n) → _≡_ {A = RunEnd Live} (record { stop = e .stop; count = e .count; state = live (e .state) w }) (runN (attemptOf lent) left (live x w))
+        spent q = ap (λ (j : Stop). record { stop = j; count = e .count; state = live (e .state) w }) (q .0) ∙ compose.spent (attemptOf lent) left (e .count) (live (e .state) w) (m (q .1)) ∙ sym onward
 
-        found : (e .count < n) × (stepOf lent (live (e .state) w) ≡ halt (e .stop)) → _≡_ {A = RunEnd Live} (record { stop = e .stop; count = e .count; state = live (e .state) w }) (runN (stepOf lent) left (live x w))
-        found q = compose.found (stepOf lent) left (e .count) (live (e .state) w) (e .stop) (omega (arith, q .0, stretch-most)) (q .1) ∙ sym onward
+        found : (e .count < n) × (attemptOf lent (live (e .state) w) ≡ halt (e .stop)) → _≡_ {A = RunEnd Live} (record { stop = e .stop; count = e .count; state = live (e .state) w }) (runN (attemptOf lent) left (live x w))
+        found q = compose.found (attemptOf lent) left (e .count) (live (e .state) w) (e .stop) (omega (arith, q .0, stretch-most)) (q .1) ∙ sym onward
 
     module _ (h : Halted) (st so ou : List ℕ) (d : stretched h st so ou ≡ e) where
       count-is : h .count ≡ e .count
@@ -170,7 +172,7 @@ module _ (lent : Lent) (x : State) (w left : ℕ) where
       counted = omega (arith, count-is, stretch-least)
 
       pub stretch-goes : h .count ≡ n → (left - h .count ≡ 0 → ⊥) → let b : Advanced = record { stop = 0; code = 0; left = left - h .count; requests = w; core = h .core } in
-          Advances (stepOf lent) left (live x w) b (liveAt b st so ou)
+          Advances (attemptOf lent) left (live x w) b (liveAt b st so ou)
       stretch-goes m z =
           let some = some-stretch (λ k. z (omega (arith, k))) in
           let k : left - (left - h .count) ≡ h .count = omega (arith, counted) in
@@ -178,53 +180,56 @@ module _ (lent : Lent) (x : State) (w left : ℕ) where
             most = omega arith;
             goes = λ f. ((omega (arith, m, some, counted)), rw k (rw (← d) at onward));
             stops = λ f. absurd (f refl);
+            names = λ f. absurd (f refl);
           }
 
-      pub stretch-ends : (h .number ≡ 0 → ⊥) → (h .count ≡ n → left - h .count ≡ 0) → let b : Advanced = record { stop = h .number; code = h .code; left = left - h .count; requests = w; core = h .core } in
-          Advances (stepOf lent) left (live x w) b (liveAt b st so ou)
-      stretch-ends f m =
+      pub stretch-ends : Names (h .number) (h .code) → (h .count ≡ n → left - h .count ≡ 0) → let b : Advanced = record { stop = h .number; code = h .code; left = left - h .count; requests = w; core = h .core } in
+          Advances (attemptOf lent) left (live x w) b (liveAt b st so ou)
+      stretch-ends named m =
           let k : left - (left - h .count) ≡ h .count = omega (arith, counted) in
           record {
             most = omega arith;
-            goes = λ z. absurd (f z);
+            goes = λ z. absurd (a-stop (stopOf (h .number) (h .code)) (named .0 ∙ z));
             stops = λ z. rw k (rw (← d) at (ends (λ q. omega (arith, m (count-is ∙ q), count-is, counted))));
+            names = λ z. named;
           }
 
--- ---- the loop
+-- ---- a loop of steps of f
 
 -- before a turn: how many steps are left, a machine, and the rest still to run
-pub record Lining (image table map inputs : List ℕ) (w n : ℕ) (first : Live) (left pending : ℕ) (r : Core) (stack store outputs : List ℕ) : Type 0 where
+pub record Looping (f : Live → OutcomeOf Live) (image table map inputs : List ℕ) (w n : ℕ) (first : Live) (left pending : ℕ) (r : Core) (stack store outputs : List ℕ) : Type 0 where
   pub most : left ≤ n
   pub sized : length store ≡ w
   pub ready : Ready image table map (length store) (length outputs) (length inputs) r stack
-  pub rest : runN (stepOf (lentTo image map inputs)) n first ≡ after (n - left) (runN (stepOf (lentTo image map inputs)) left (live (held r stack store outputs) pending))
+  pub rest : runN f n first ≡ after (n - left) (runN f left (live (held r stack store outputs) pending))
 
-module _ (image table map inputs : List ℕ) (n : ℕ) where
-  abbrev f : Live → OutcomeOf Live
-  f = stepOf (lentTo image map inputs)
-
-  pub lining : (w : ℕ) (r : Core) (stack store outputs : List ℕ) → Ready image table map (length store) (length outputs) (length inputs) r stack
-      → Lining image table map inputs (length store) n (live (held r stack store outputs) w) n w r stack store outputs
-  lining w r stack store outputs R = record {
+module _ (f : Live → OutcomeOf Live) (image table map inputs : List ℕ) (n : ℕ) where
+  pub loop-begins : (w : ℕ) (r : Core) (stack store outputs : List ℕ) → Ready image table map (length store) (length outputs) (length inputs) r stack
+      → Looping f image table map inputs (length store) n (live (held r stack store outputs) w) n w r stack store outputs
+  loop-begins w r stack store outputs R = record {
     most = omega arith;
     sized = refl;
     ready = R;
     rest = let z : n - n ≡ 0 = omega arith in let y : n - 0 ≡ n = omega arith in rw z (subst (λ (k : ℕ). runN f n (live (held r stack store outputs) w) ≡ after 0 (runN f k (live (held r stack store outputs) w))) y (compose.begin f n (live (held r stack store outputs) w)));
   }
 
-  module _ (w : ℕ) (first : Live) (left pending : ℕ) (r : Core) (stack store outputs : List ℕ) (L : Lining image table map inputs w n first left pending r stack store outputs)
+  module _ (w : ℕ) (first : Live) (left pending : ℕ) (r : Core) (stack store outputs : List ℕ) (L : Looping f image table map inputs w n first left pending r stack store outputs)
       (a : Advanced) (st so ou : List ℕ) (A : Advances f left (live (held r stack store outputs) pending) a (liveAt a st so ou)) where
     sum : n - left + (left - a .left) ≡ n - a .left
     sum = omega (arith, A .most, L .most)
 
-    pub lines-on : a .stop ≡ 0 → length so ≡ length store → Ready image table map (length so) (length ou) (length inputs) (a .core) st
-        → Lining image table map inputs w n first (a .left) (a .requests) (a .core) st so ou
-    lines-on z s R = record {
+    pub loop-on : a .stop ≡ 0 → length so ≡ length store → Ready image table map (length so) (length ou) (length inputs) (a .core) st
+        → Looping f image table map inputs w n first (a .left) (a .requests) (a .core) st so ou
+    loop-on z s R = record {
       most = omega (arith, A .most, L .most);
       sized = s ∙ L .sized;
       ready = R;
       rest = L .rest ∙ ap (after (n - left)) (A .goes z .1) ∙ compose.after-after (n - left) (left - a .left) _ ∙ ap (λ (c : ℕ). after c (runN f (a .left) (liveAt a st so ou))) sum;
     }
 
-    pub lines-end : (a .stop ≡ 0 → ⊥) → _≡_ {A = RunEnd Live} (record { stop = stopOf (a .stop) (a .code); count = n - a .left; state = liveAt a st so ou }) (runN f n first)
-    lines-end s = ap (λ (c : ℕ). record { stop = stopOf (a .stop) (a .code); count = c; state = liveAt a st so ou }) (sym sum) ∙ ap (after (n - left)) (A .stops s) ∙ sym (L .rest)
+    pub loop-ends : (a .stop ≡ 0 → ⊥) → _≡_ {A = RunEnd Live} (record { stop = stopOf (a .stop) (a .code); count = n - a .left; state = liveAt a st so ou }) (runN f n first)
+    loop-ends s = ap (λ (c : ℕ). record { stop = stopOf (a .stop) (a .code); count = c; state = liveAt a st so ou }) (sym sum) ∙ ap (after (n - left)) (A .stops s) ∙ sym (L .rest)
+
+    -- the whole loop as one turn
+    pub loop-turns : (a .stop ≡ 0 → ⊥) → Advances f n first a (liveAt a st so ou)
+    loop-turns s = record { most = omega (arith, A .most, L .most); goes = λ z. absurd (s z); stops = loop-ends; names = A .names }

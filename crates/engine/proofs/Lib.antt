@@ -4,3 +4,4 @@ pub mod Closed
 pub mod Composed
 pub mod Turns
 pub mod Advancing
+pub mod Trapping

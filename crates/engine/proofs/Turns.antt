@@ -28,7 +28,7 @@ use Rattle.execute.proofs.Fits.{asks-of, listed-of}
 use Rattle.execute.proofs.Went.{Stopped, turn-goes, turn-stops}
 use Rattle.engine.specs.Stops.{stopOf}
 use Rattle.engine.specs.Judged.{Passed}
-use Rattle.engine.specs.Loops.{Ready}
+use Rattle.engine.specs.Loops.{Ready, Names}
 
 -- the way back from a stop's number and code
 pub stop-back : (k : Stop) → stopOf (stopNumber k) (stopCode k) ≡ k
@@ -45,7 +45,10 @@ stop-back CheckFailed = refl
 stop-back BadChannel = refl
 stop-back (Program code) = refl
 
-stop-record : (k : Stop) (l : Left) (x : State) (c : ℕ) → l .stop ≡ stopNumber k → l .code ≡ stopCode k → l .state ≡ x
+pub names : {n c : ℕ} (k : Stop) → n ≡ stopNumber k → c ≡ stopCode k → Names n c
+names k e f = rw (e, f, stop-back k) (refl, refl)
+
+pub stop-record : (k : Stop) (l : Left) (x : State) (c : ℕ) → l .stop ≡ stopNumber k → l .code ≡ stopCode k → l .state ≡ x
     → _≡_ {A = RunEnd State} (record { stop = stopOf (l .stop) (l .code); count = c; state = l .state }) (record { stop = k; count = c; state = x })
 stop-record k l x c a b d = rw (a, b, d, stop-back k)
 
@@ -84,6 +87,9 @@ module _ (lent : Lent) (x : State) (l : Left) where
       by (inr (m, w)) =
           let t = compose.found (instructionOf lent) n (n - left) x (w .why) (omega (arith, m, h)) (w .halts) in
           stop-record (w .why) l x (n - left) (w .number) (w .code) (w .same) ∙ (rw done at t)
+
+  pub turn-names : (left : ℕ) → l ≡ turned lent left x → (l .stop ≡ 0 → ⊥) → Names (l .stop) (l .code)
+  turn-names left e s = ⊎-elim (λ a. names Spent (ap (λ (y : Left). y .stop) (a .1)) (ap (λ (y : Left). y .code) (a .1))) (λ b. names (b .1 .why) (b .1 .number) (b .1 .code)) (turn-stops lent left x l e s)
 
   -- a stop leaves all as it was
   pub stop-same : (left : ℕ) → l ≡ turned lent left x → (l .stop ≡ 0 → ⊥) → l .state ≡ x
@@ -172,6 +178,9 @@ module _ (image table map inputs : List ℕ) where
       stops-so s =
           let p : n + 1 - left ≡ n - (left - 1) = omega (arith, G .more) in
           turn-stop lent (held r stack store outputs) (result q st so ou) n (left - 1) (omega (arith, G .most, G .more)) e s ∙ sym (rw p at (G .rest))
+
+      pub named : (q .stop ≡ 0 → ⊥) → Names (q .stop) (q .code)
+      named s = turn-names lent (held r stack store outputs) (result q st so ou) (left - 1) e s
 
       -- the machine stands where it stopped
       pub stands-still : (q .stop ≡ 0 → ⊥) → Ready image table map (length so) (length ou) (length inputs) (q .core) st

@@ -1,8 +1,10 @@
-// The two stepping loops: instructions, one after another, inside a loop that takes the lines that are requested.
+// The three stepping loops: instructions, one after another, inside a loop that takes the lines that are requested, inside one that catches
+// traps.
 use crate::stops::stop_of;
 use actions::Core;
 use control::lines::line_of;
 use control::lines::without;
+use control::transfer::catch_trap;
 use control::transfer::take_line;
 use execute::steps::core_of;
 use execute::steps::machine_of;
@@ -14,11 +16,11 @@ ghost use mathlib.Core.Logic.{_⊎_};
 ghost use Prim.Native.Nat.{_≤_};
 ghost use lib.ListN.{length};
 ghost use Rattle.mcode.specs.Machine.{state, live};
-ghost use Rattle.mcode.specs.Step.{instructionOf, lineOf, stepOf};
+ghost use Rattle.mcode.specs.Step.{instructionOf, lineOf, attemptOf, stepOf};
 ghost use Rattle.mcode.specs.Run.{lentTo, runN};
 ghost use Rattle.actions.specs.Core.{held};
 ghost use Rattle.engine.specs.Judged.{Passed};
-ghost use Rattle.engine.specs.Loops.{Ready, stretched, liveAt, Advances, stretchOf, stoppedAt};
+ghost use Rattle.engine.specs.Loops.{Ready, Names, stretched, liveAt, Advances, stretchOf, stoppedAt};
 
 // Where a stretch of instructions stopped: the number of the stop with its code, the count of instructions, and the registers.
 struct Halted {
@@ -41,7 +43,7 @@ fn instructions(
     n: u32,
 ) -> Halted
     requires { ⌜ Ready (now image) (now table) (now map) (length (now store)) (length (now outputs)) (length (now inputs)) first (now stack) ⌝ }
-    ensures { λ q. ⌜ (stretched q (now (stack .exit)) (now (store .exit)) (now (outputs .exit)) ≡ runN (instructionOf (lentTo (now (image .entry)) (now (map .entry)) (now (inputs .entry)))) n (held first (now (stack .entry)) (now (store .entry)) (now (outputs .entry)))) × (q .number ≡ 0 → ⊥) × Ready (now (image .entry)) (now (table .entry)) (now (map .entry)) (length (now (store .exit))) (length (now (outputs .exit))) (length (now (inputs .entry))) (q .core) (now (stack .exit)) ⌝ }
+    ensures { λ q. ⌜ (stretched q (now (stack .exit)) (now (store .exit)) (now (outputs .exit)) ≡ runN (instructionOf (lentTo (now (image .entry)) (now (map .entry)) (now (inputs .entry)))) n (held first (now (stack .entry)) (now (store .entry)) (now (outputs .entry)))) × Names (q .number) (q .code) × Ready (now (image .entry)) (now (table .entry)) (now (map .entry)) (length (now (store .exit))) (length (now (outputs .exit))) (length (now (inputs .entry))) (q .core) (now (stack .exit)) ⌝ }
 {
     let mut r = first;
     let mut left = n as u64 + 1;
@@ -65,7 +67,7 @@ fn instructions(
     }
 }
 
-// How a turn of the loop that takes lines ends: 0 where it goes on, or the number of a stop with its code; how many steps are left to do,
+// How a turn of one of the outer loops ends: 0 where it goes on, or the number of a stop with its code; how many steps are left to do,
 // what is left of the requests, and the registers.
 struct Advanced {
     stop: u32,
@@ -91,7 +93,7 @@ fn by_line(
 ) -> Advanced
     requires { ⌜ Ready (now image) (now table) (now map) (length (now store)) (length (now outputs)) (length (now inputs)) r (now stack) ⌝ }
     requires { ⌜ (1 ≤ left) × (1 ≤ i) × (i ≡ lineOf (live (held r (now stack) (now store) (now outputs)) given)) ⌝ }
-    ensures { λ a. ⌜ Advances (stepOf (lentTo (now (image .entry)) (now (map .entry)) (now (inputs .entry)))) left (live (held r (now (stack .entry)) (now (store .entry)) (now (outputs .entry))) given) a (liveAt a (now (stack .exit)) (now (store .exit)) (now (outputs .entry))) × Ready (now (image .entry)) (now (table .entry)) (now (map .entry)) (length (now (store .exit))) (length (now (outputs .entry))) (length (now (inputs .entry))) (a .core) (now (stack .exit)) ⌝ }
+    ensures { λ a. ⌜ Advances (attemptOf (lentTo (now (image .entry)) (now (map .entry)) (now (inputs .entry)))) left (live (held r (now (stack .entry)) (now (store .entry)) (now (outputs .entry))) given) a (liveAt a (now (stack .exit)) (now (store .exit)) (now (outputs .entry))) × Ready (now (image .entry)) (now (table .entry)) (now (map .entry)) (length (now (store .exit))) (length (now (outputs .entry))) (length (now (inputs .entry))) (a .core) (now (stack .exit)) ⌝ }
 {
     let t = take_line(r, table, map, stack, store, i);
     let next = t.core;
@@ -142,7 +144,7 @@ fn by_instructions(
 ) -> Advanced
     requires { ⌜ Ready (now image) (now table) (now map) (length (now store)) (length (now outputs)) (length (now inputs)) r (now stack) ⌝ }
     requires { ⌜ (left ≡ 0) ⊎ (lineOf (live (held r (now stack) (now store) (now outputs)) requests) ≡ 0) ⌝ }
-    ensures { λ a. ⌜ Advances (stepOf (lentTo (now (image .entry)) (now (map .entry)) (now (inputs .entry)))) left (live (held r (now (stack .entry)) (now (store .entry)) (now (outputs .entry))) requests) a (liveAt a (now (stack .exit)) (now (store .exit)) (now (outputs .exit))) × Ready (now (image .entry)) (now (table .entry)) (now (map .entry)) (length (now (store .exit))) (length (now (outputs .exit))) (length (now (inputs .entry))) (a .core) (now (stack .exit)) ⌝ }
+    ensures { λ a. ⌜ Advances (attemptOf (lentTo (now (image .entry)) (now (map .entry)) (now (inputs .entry)))) left (live (held r (now (stack .entry)) (now (store .entry)) (now (outputs .entry))) requests) a (liveAt a (now (stack .exit)) (now (store .exit)) (now (outputs .exit))) × Ready (now (image .entry)) (now (table .entry)) (now (map .entry)) (length (now (store .exit))) (length (now (outputs .exit))) (length (now (inputs .entry))) (a .core) (now (stack .exit)) ⌝ }
 {
     let n = stretch(left, requests);
     let h = instructions(r, image, table, map, stack, store, inputs, outputs, n);
@@ -182,7 +184,7 @@ fn advance(
     requests: u16,
 ) -> Advanced
     requires { ⌜ Ready (now image) (now table) (now map) (length (now store)) (length (now outputs)) (length (now inputs)) r (now stack) ⌝ }
-    ensures { λ a. ⌜ Advances (stepOf (lentTo (now (image .entry)) (now (map .entry)) (now (inputs .entry)))) left (live (held r (now (stack .entry)) (now (store .entry)) (now (outputs .entry))) requests) a (liveAt a (now (stack .exit)) (now (store .exit)) (now (outputs .exit))) × Ready (now (image .entry)) (now (table .entry)) (now (map .entry)) (length (now (store .exit))) (length (now (outputs .exit))) (length (now (inputs .entry))) (a .core) (now (stack .exit)) ⌝ }
+    ensures { λ a. ⌜ Advances (attemptOf (lentTo (now (image .entry)) (now (map .entry)) (now (inputs .entry)))) left (live (held r (now (stack .entry)) (now (store .entry)) (now (outputs .entry))) requests) a (liveAt a (now (stack .exit)) (now (store .exit)) (now (outputs .exit))) × Ready (now (image .entry)) (now (table .entry)) (now (map .entry)) (length (now (store .exit))) (length (now (outputs .exit))) (length (now (inputs .entry))) (a .core) (now (stack .exit)) ⌝ }
 {
     let i = line_of(requests, r.mask, store[3]);
     if i != 0 {
@@ -216,6 +218,57 @@ fn advance(
     )
 }
 
+// Up to n lines and instructions, until a stop is found.
+fn attempts(
+    first: Core,
+    image: &[u8],
+    table: &[u16; 193],
+    map: &[u32],
+    stack: &mut [u16; 16],
+    store: &mut [u16],
+    inputs: &[u16],
+    outputs: &mut [u16],
+    n: u32,
+    requests: u16,
+) -> Advanced
+    requires { ⌜ Ready (now image) (now table) (now map) (length (now store)) (length (now outputs)) (length (now inputs)) first (now stack) ⌝ }
+    ensures { λ a. ⌜ Advances (attemptOf (lentTo (now (image .entry)) (now (map .entry)) (now (inputs .entry)))) n (live (held first (now (stack .entry)) (now (store .entry)) (now (outputs .entry))) requests) a (liveAt a (now (stack .exit)) (now (store .exit)) (now (outputs .exit))) × (a .stop ≡ 0 → ⊥) × Ready (now (image .entry)) (now (table .entry)) (now (map .entry)) (length (now (store .exit))) (length (now (outputs .exit))) (length (now (inputs .entry))) (a .core) (now (stack .exit)) ⌝ }
+{
+    let mut r = first;
+    let mut left = n;
+    let mut pending = requests;
+    let mut code = 0u16;
+    let stop = 'lines: loop {
+        let a = advance(
+            r,
+            image,
+            table,
+            map,
+            stack,
+            store,
+            inputs,
+            outputs,
+            left,
+            pending,
+        );
+        let next = a.core;
+        r = next;
+        left = a.left;
+        pending = a.requests;
+        if a.stop != 0 {
+            code = a.code;
+            break 'lines a.stop;
+        }
+    };
+    Advanced {
+        stop,
+        code,
+        left,
+        requests: pending,
+        core: r,
+    }
+}
+
 // Where the run stopped: the stop, the count of steps, the machine, and what is left of the requests.
 pub struct Stopping {
     pub stop: Stop,
@@ -224,7 +277,7 @@ pub struct Stopping {
     pub requests: u16,
 }
 
-// Up to n steps: lines and instructions, until a stop is found.
+// Up to n steps: lines, instructions and the traps of either, until a stop is found that is not caught.
 pub fn steps(
     machine: Machine,
     image: &[u8],
@@ -245,8 +298,8 @@ pub fn steps(
     let mut left = n;
     let mut pending = requests;
     let mut code = 0u16;
-    let number = 'lines: loop {
-        let a = advance(
+    let number = 'traps: loop {
+        let a = attempts(
             r,
             image,
             table,
@@ -258,14 +311,17 @@ pub fn steps(
             left,
             pending,
         );
-        let next = a.core;
-        r = next;
-        left = a.left;
+        let there = a.core;
         pending = a.requests;
-        if a.stop != 0 {
-            code = a.code;
-            break 'lines a.stop;
+        let t = catch_trap(there, table, map, &mut stack, store, a.stop, a.code);
+        let next = t.core;
+        r = next;
+        if t.stop != 0 {
+            left = a.left;
+            code = t.code;
+            break 'traps t.stop;
         }
+        left = a.left - 1;
     };
     let stop = stop_of(number, code);
     let after = machine_of(r, stack);

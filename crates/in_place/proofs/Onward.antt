@@ -1,25 +1,24 @@
 -- The turns of the loop that steps a machine in place: what stands before each, from the first to the stop. Assumes nothing.
-use mathlib.Core.Path.{_≡_, refl, sym, ap, _∙_, subst}
+use mathlib.Core.Path.{_≡_, refl, sym, ap, _∙_}
 use mathlib.Core.Bool.{true}
 use mathlib.Core.List.{List}
 use Prim.Native.Nat.{ℕ, _+_, _-_, _≤_, _<_}
 use native.Mathlib.Omega.{arith}
 use lib.ListN.{length}
-use borrow.Author.Tests.{ne-eqb}
 use Rattle.mcode.specs.Image.{parse}
 use Rattle.mcode.specs.Depths.{mapFits}
 use Rattle.mcode.specs.Machine.{State, live, isMachine, go}
-use Rattle.mcode.specs.Step.{Lent, instructionOf, stepOf}
+use Rattle.mcode.specs.Step.{Lent, quietOf, stepOf}
 use Rattle.mcode.specs.Run.{RunEnd, after, runN, lentTo}
 use Rattle.mcode.specs.Demands.{QuietRuns, holding}
+use Rattle.mcode.specs.declared.Stop.the-variants.{Spent}
 use Rattle.mcode.proofs.Compose as compose
-use Rattle.mcode.proofs.Points.{instruction-preserves}
+use Rattle.mcode.proofs.Points.{quiet-preserves}
 use Rattle.mcode.proofs.Requests.{below-lineless, quiet-runs}
 use Rattle.actions.specs.Core.{Left, leftBy}
-use Rattle.execute.specs.Stepping.{turned}
-use Rattle.execute.proofs.Went.{went-on}
+use Rattle.execute.proofs.Went.{went-on, stopped}
 use Rattle.engine.specs.Stops.{stopOf}
-use Rattle.engine.proofs.Turns.{turn-stop}
+use Rattle.engine.proofs.Turns.{stop-record}
 
 -- before a turn: count steps of the budget n are done, the state has a machine, and the rest is still to run
 pub record Onward (image map inputs : List ℕ) (w n : ℕ) (first : State) (count : ℕ) (x : State) : Type 0 where
@@ -27,43 +26,38 @@ pub record Onward (image map inputs : List ℕ) (w n : ℕ) (first : State) (cou
   pub sized : length (x .store) ≡ w
   pub sixteen : length (x .outputs) ≡ 16
   pub good : isMachine (parse image .program) map (length (x .store)) (x .machine) ≡ true
-  pub rest : runN (instructionOf (lentTo image map inputs)) n first ≡ after count (runN (instructionOf (lentTo image map inputs)) (n - count) x)
+  pub rest : runN (quietOf (lentTo image map inputs)) n first ≡ after count (runN (quietOf (lentTo image map inputs)) (n - count) x)
 
 module _ (image map inputs : List ℕ) (n : ℕ) where
   abbrev lent : Lent
   lent = lentTo image map inputs
 
   pub begins : (x : State) → length (x .outputs) ≡ 16 → isMachine (parse image .program) map (length (x .store)) (x .machine) ≡ true → Onward image map inputs (length (x .store)) n x 0 x
-  begins x o g = record { most = omega arith; sized = refl; sixteen = o; good = g; rest = compose.begin (instructionOf lent) n x }
+  begins x o g = record { most = omega arith; sized = refl; sixteen = o; good = g; rest = compose.begin (quietOf lent) n x }
 
   module _ (w : ℕ) (first : State) (count : ℕ) (x : State) (G : Onward image map inputs w n first count x) (l : Left) where
-    pub goes-on : mapFits image (parse image .program) map ≡ true → count < n → l ≡ leftBy x (instructionOf lent x) → l .stop ≡ 0 → Onward image map inputs w n first (count + 1) (l .state)
+    pub goes-on : mapFits image (parse image .program) map ≡ true → count < n → l ≡ leftBy x (quietOf lent x) → l .stop ≡ 0 → Onward image map inputs w n first (count + 1) (l .state)
     goes-on fits less e z =
-        let went : instructionOf lent x ≡ go (l .state) = went-on x (instructionOf lent x) l e z in
-        let kept = instruction-preserves lent fits x (G .good) (G .sixteen) (l .state) went in
+        let went : quietOf lent x ≡ go (l .state) = went-on x (quietOf lent x) l e z in
+        let kept = quiet-preserves lent fits x (G .good) (G .sixteen) (l .state) went in
         record {
           most = omega (arith, less);
           sized = kept .1 ∙ G .sized;
           sixteen = kept .2;
           good = kept .0;
-          rest = G .rest ∙ compose.turn (instructionOf lent) n count x (l .state) less went;
+          rest = G .rest ∙ compose.turn (quietOf lent) n count x (l .state) less went;
         }
 
-    stops : l ≡ turned lent (n - count) x → (l .stop ≡ 0 → ⊥) → _≡_ {A = RunEnd State} (record { stop = stopOf (l .stop) (l .code); count = count; state = l .state }) (runN (instructionOf lent) n first)
-    stops e s =
-        let p : n - (n - count) ≡ count = omega (arith, G .most) in
-        let t = turn-stop lent x l n (n - count) (omega arith) e s in
-        (rw p at t) ∙ sym (G .rest)
+    pub stops-so : count < n → l ≡ leftBy x (quietOf lent x) → (l .stop ≡ 0 → ⊥) → _≡_ {A = RunEnd State} (record { stop = stopOf (l .stop) (l .code); count = count; state = l .state }) (runN (quietOf lent) n first)
+    stops-so less e s =
+        let f = stopped x (quietOf lent x) l e s in
+        stop-record (f .why) l x count (f .number) (f .code) (f .same) ∙ compose.found (quietOf lent) n count x (f .why) less (f .halts) ∙ sym (G .rest)
 
-    pub stops-so : count < n → l ≡ leftBy x (instructionOf lent x) → (l .stop ≡ 0 → ⊥) → _≡_ {A = RunEnd State} (record { stop = stopOf (l .stop) (l .code); count = count; state = l .state }) (runN (instructionOf lent) n first)
-    stops-so less e = stops (rw (ne-eqb (n - count) 0 (λ q. omega (arith, q, less))) e)
-
-    pub spent-so : n ≤ count → l ≡ record { stop = 30; code = 0; state = x } → _≡_ {A = RunEnd State} (record { stop = stopOf (l .stop) (l .code); count = count; state = l .state }) (runN (instructionOf lent) n first)
+    pub spent-so : n ≤ count → l ≡ record { stop = 30; code = 0; state = x } → _≡_ {A = RunEnd State} (record { stop = stopOf (l .stop) (l .code); count = count; state = l .state }) (runN (quietOf lent) n first)
     spent-so all e =
-        let q : n - count ≡ 0 = omega (arith, all) in
-        stops (rw q e) (λ z. omega (arith, ap (λ (a : Left). a .stop) e, z))
+        stop-record Spent l x count (ap (λ (a : Left). a .stop) e) (ap (λ (a : Left). a .code) e) (ap (λ (a : Left). a .state) e) ∙ compose.spent (quietOf lent) n count x all ∙ sym (G .rest)
 
--- without requests the run of instructions is the run
-pub quiet-so : (lent : Lent) (n : ℕ) (x : State) {e : RunEnd State} → e ≡ runN (instructionOf lent) n x → holding 0 e ≡ runN (stepOf lent) n (live x 0)
+-- without requests the run of instructions and their traps is the run
+pub quiet-so : (lent : Lent) (n : ℕ) (x : State) {e : RunEnd State} → e ≡ runN (quietOf lent) n x → holding 0 e ≡ runN (stepOf lent) n (live x 0)
 unfolding QuietRuns
 quiet-so lent n x q = ap (holding 0) q ∙ sym (quiet-runs lent n x 0 (below-lineless 0 (omega arith)))

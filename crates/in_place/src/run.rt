@@ -10,7 +10,7 @@ use mcode::Machine;
 ghost use mathlib.Core.Path.{_≡_};
 ghost use lib.ListN.{length};
 ghost use Rattle.mcode.specs.Machine.{state, live};
-ghost use Rattle.mcode.specs.Step.{instructionOf};
+ghost use Rattle.mcode.specs.Step.{quietOf};
 ghost use Rattle.mcode.specs.Run.{lentTo, runN, runOf};
 ghost use Rattle.engine.specs.Judged.{Passed};
 ghost use Rattle.engine.specs.Ran.{answered};
@@ -35,7 +35,7 @@ fn steps_in_place(
     n: u32,
 ) -> Halted
     requires { ⌜ Passed (now image) (now map) machine (length (now store)) (length (now outputs)) (length (now inputs)) (now table) ⌝ }
-    ensures { λ q. ⌜ haltedAt q (now (store .exit)) (now (outputs .exit)) ≡ runN (instructionOf (lentTo (now (image .entry)) (now (map .entry)) (now (inputs .entry)))) n (state machine (now (store .entry)) (now (outputs .entry))) ⌝ }
+    ensures { λ q. ⌜ haltedAt q (now (store .exit)) (now (outputs .exit)) ≡ runN (quietOf (lentTo (now (image .entry)) (now (map .entry)) (now (inputs .entry)))) n (state machine (now (store .entry)) (now (outputs .entry))) ⌝ }
 {
     let mut m = machine;
     let mut count = 0u32;

@@ -15,7 +15,7 @@ use Rattle.mcode.specs.Decode.{Action, Return, Transfer, Save, Fetch}
 use Rattle.mcode.specs.Word.{pick, and}
 use Rattle.mcode.specs.Image.{margin, moduleOf, basesOf, procCount, entryOf, paramsOf, resultsOf}
 use Rattle.mcode.specs.Depths.{frontOf, passed, depths, calls, callsIn, marksOf}
-use Rattle.mcode.specs.Machine.{position, machine, at, framed, top, second, take2}
+use Rattle.mcode.specs.Machine.{state, position, machine, at, framed, top, second, take2}
 use Rattle.mcode.specs.Step.{wordIn, call, unitBased, lands, backTo, returned, processAt, withinLimit, resumes, isProcess, saved, restoredMachine, isTarget, changed, switched, transferred, stackSaved, stackFetched}
 use Rattle.mcode.specs.Demands.{isPlain}
 use Rattle.mcode.proofs.Tests.{and-both, not-is}
@@ -34,10 +34,11 @@ not-plain op h p = let (a, b) = and-both (ltb op 0o354) (not (eqb op 0o256)) p i
     go l n (inr e) = n e
 
 module _ (H : Here) where
-  -- a change to another process, whichever position and words are saved, and wherever the old one goes
-  pub changed-ok : (b : ℕ) (next : Position) (k c q : ℕ) → isTarget (H .lent) q (H .x) ≡ true → Ok H (changed (H .lent) b next k c q (H .x))
+  -- a change to another process, whichever position and words are saved, over whichever store, and wherever the old one goes
+  pub changed-ok : (b : ℕ) (next : Position) (k c q : ℕ) (store : List ℕ) → length store ≡ length (H .x .store) → isTarget (H .lent) q (H .x) ≡ true
+      → Ok H (changed (H .lent) b next k c q store (H .x))
   unfolding isProcess restoredMachine changed
-  changed-ok b next k c q t =
+  changed-ok b next k c q store z t =
       let r = processAt (H .x .store) q in
       let w = length (H .x .store) in
       let (a₁, b₁) = and-both (leb (q + 8) w) _ t in
@@ -56,7 +57,7 @@ module _ (H : Here) where
         proc = omega (arith, H .kept .sized);
         zeros = zeros-restored (H .x .store) (r .k) (r .s - 1 - r .k) (r .k) (replicate 16 0) (omega arith) (λ i l h. getD-replicate 16 i 0 0 l);
       } in
-      record { good = g; sized = length-saved-store (getD (basesOf (P H)) (R H .unit) 0) next c (H .x) k ∙ H .kept .sized; outs = H .kept .outs }
+      record { good = g; sized = length-saved-store (getD (basesOf (P H)) (R H .unit) 0) next c (state (M H) store (H .x .outputs)) k ∙ z ∙ H .kept .sized; outs = H .kept .outs }
 
 module _ (H : Here) (n : Position) where
   set3 : (s a b c : ℕ) → length (set (set (set (H .x .store) s a) (s + 1) b) (s + 2) c) ≡ length (H .x .store)
@@ -94,7 +95,7 @@ module _ (H : Here) (n : Position) where
   unfolding switched changed
   switch-right b q =
       by-test H (isTarget (H .lent) q (H .x))
-      (λ t. let k = changed-ok H b n (D H - 2) (second (M H)) q t in on k (other refl (k .good .at .few), λ op o p. absurd (not-plain op (inr (eqb→eq op 0o256 o)) p)))
+      (λ t. let k = changed-ok H b n (D H - 2) (second (M H)) q (H .x .store) refl t in on k (other refl (k .good .at .few), λ op o p. absurd (not-plain op (inr (eqb→eq op 0o256 o)) p)))
       (λ t. off tt)
 
   pub transfer-right : (b : ℕ) → D H - 2 + 0 ≤ 16 → Marks H (n .0) (D H - 2 + 0) → Right H n (Transfer b) (transferred (H .lent) b n (H .x))

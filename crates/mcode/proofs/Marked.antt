@@ -14,7 +14,7 @@ use Rattle.mcode.specs.Walk.{ways, waysAt, legible, named, causeAt, whol
 use Rattle.mcode.specs.declared.Verdict.{Verdict}
 use Rattle.mcode.specs.Machine.{isMachine}
 use Rattle.mcode.specs.Decode.{row1, row2, row3, loads, stores, row8, row9, row10, row11, row12, row13, row14, row15, decodeOf}
-use Rattle.mcode.specs.Step.{followed, call, unitOf, backTo, returned, isProcess, saved, restored, written, savedStore, restoredMachine, changed, switched, transferred, stackSaved, stackFetched, performOf, instructionOf, highest, takenLine, stepOf}
+use Rattle.mcode.specs.Step.{followed, call, unitOf, backTo, returned, isProcess, saved, restored, written, savedStore, restoredMachine, changed, switched, transferred, stackSaved, stackFetched, performOf, instructionOf, highest, takenLine, attemptOf, isCaught, caught, trapped, stepOf}
 use Rattle.mcode.specs.Run.{verdict, faultAt, Loads, runN, runRefusal, runOf, startRefusal, startStore, startMachine, startOf}
 use Rattle.mcode.specs.Marked.{Expected, refuses, reads, Case, deskOf, Holds, AllHold, cases}
 use Rattle.mcode.proofs.Trace.{gather, entered, forced, member, leastTest, other, wrong, anyWrong, clashTest, acceptTest, setFrom, setOf, wholeTest, unfitTest, brokenTest, accepts, refuses-8, refuses-13}
@@ -46,7 +46,7 @@ all-hold [] t = tt
 all-hold (c ∷ cs) t = (holds (c .image) (c .budget) (c .expected) (t .0), all-hold cs (t .1))
 
 computed : AllComputed cases
-unfolding allBelow anyBelow oneOf twoOf threeOf doubleOf lengths takens lefts byteAt wordAt skipAt bitsAt dataAt countAt nameAt lengthAt limitedAt recordAt recordsAt bodyAt moduleAt refusedBy modulesFrom parse inCode fits markOf depthOf promised saves listOf frontOf isList isMark passed stored fetched leaves permits depthFlow target jumps calls callsIn onward flowAt marked mapFits isMachine row1 row2 row3 loads stores row8 row9 row10 row11 row12 row13 row14 row15 decodeOf followed call unitOf backTo returned isProcess saved restored written savedStore restoredMachine changed switched transferred stackSaved stackFetched performOf instructionOf highest takenLine stepOf runN runRefusal runOf startRefusal startStore startMachine startOf deskOf gather entered forced member leastTest other wrong anyWrong clashTest acceptTest setFrom setOf wholeTest unfitTest brokenTest ways waysAt legible named causeAt wholeAt
+unfolding allBelow anyBelow oneOf twoOf threeOf doubleOf lengths takens lefts byteAt wordAt skipAt bitsAt dataAt countAt nameAt lengthAt limitedAt recordAt recordsAt bodyAt moduleAt refusedBy modulesFrom parse inCode fits markOf depthOf promised saves listOf frontOf isList isMark passed stored fetched leaves permits depthFlow target jumps calls callsIn onward flowAt marked mapFits isMachine row1 row2 row3 loads stores row8 row9 row10 row11 row12 row13 row14 row15 decodeOf followed call unitOf backTo returned isProcess saved restored written savedStore restoredMachine changed switched transferred stackSaved stackFetched performOf instructionOf highest takenLine attemptOf isCaught caught trapped stepOf runN runRefusal runOf startRefusal startStore startMachine startOf deskOf gather entered forced member leastTest other wrong anyWrong clashTest acceptTest setFrom setOf wholeTest unfitTest brokenTest ways waysAt legible named causeAt wholeAt
 computed = ((refl, refl, refl), ((refl, refl, refl), ((refl, refl, refl), ((refl, refl, refl), ((refl, refl, refl), ((refl, refl, refl), ((refl, refl, refl), ((refl, refl, refl), ((refl, refl, refl), ((refl, refl, refl), ((refl, refl, refl), ((refl, refl, refl), ((refl, refl, refl), ((refl, refl, refl), ((refl, refl, refl), ((refl, refl, refl), ((refl, refl, refl), ((refl, refl, refl), ((refl, refl, refl), ((refl, refl, refl), ((refl, refl, refl), ((refl, refl, refl), ((refl, refl, refl), ((refl, refl, refl), tt))))))))))))))))))))))))
 
 pub marked-cases : AllHold cases

@@ -9,8 +9,8 @@ use lib.Dec.{eqb}
 use lib.Bits.{bitAnd, bitOr}
 use borrow.Author.Tests.{eqb-true, eqb-false, ne-eqb}
 use Rattle.mcode.specs.Word.{pick, and, or, bit}
-use Rattle.mcode.specs.Machine.{State, Live, live, OutcomeOf, Outcome, go, halt, leaving}
-use Rattle.mcode.specs.Step.{Lent, instructionOf, isOpen, highest, lineOf, takenLine, stepOf}
+use Rattle.mcode.specs.Machine.{State, Live, live, OutcomeOf, Outcome, go, halt, leaving, handled}
+use Rattle.mcode.specs.Step.{Lent, instructionOf, isOpen, highest, lineOf, takenLine, attemptOf, trapped, stepOf, quietOf}
 use Rattle.mcode.specs.Run.{next, runN}
 use Rattle.mcode.specs.Demands.{HighestLine, Lineless, holding, QuietRuns, ClearsBit, RequestsLeft}
 use Rattle.mcode.proofs.Tests.{and-both}
@@ -77,47 +77,58 @@ open-lines w m v small =
 pub none-below : (w : ℕ) → w < 256 → highest (bit w) 8 ≡ 0
 none-below w h = highest-same (bit w) (λ i. false) (λ i l m. no-bit w 8 i h l) 8 (omega arith) ∙ no-highest 8
 
--- ---- where the requests have no line, a step is the instruction's, and runs agree
+-- ---- where the requests have no line, a step is the instruction's or its trap's, and runs agree
 
 no-line : (x : Live) → Lineless (x .requests) → lineOf x ≡ 0
 no-line x q = highest-same (isOpen x) (λ i. false) (λ i l h. rw (q i l h) refl) 8 (omega arith) ∙ no-highest 8
 
 -- a step without a line, and one with it
-pub instruction-step : (lent : Lent) (x : Live) → lineOf x ≡ 0 → stepOf lent x ≡ leaving (x .requests) (instructionOf lent (x .state))
-unfolding stepOf
+pub instruction-step : (lent : Lent) (x : Live) → lineOf x ≡ 0 → attemptOf lent x ≡ leaving (x .requests) (instructionOf lent (x .state))
+unfolding attemptOf
 instruction-step lent x z = rw z refl
 
-pub line-step : (lent : Lent) (x : Live) → 1 ≤ lineOf x → stepOf lent x ≡ leaving (x .requests - 2 ^ lineOf x) (takenLine lent (lineOf x) (x .state))
-unfolding stepOf
+pub line-step : (lent : Lent) (x : Live) → 1 ≤ lineOf x → attemptOf lent x ≡ leaving (x .requests - 2 ^ lineOf x) (takenLine lent (lineOf x) (x .state))
+unfolding attemptOf
 line-step lent x l = rw (ne-eqb (lineOf x) 0 (λ z. omega (arith, l, z))) refl
 
-pub quiet-step : (lent : Lent) (x : State) (w : ℕ) → Lineless w → stepOf lent (live x w) ≡ leaving w (instructionOf lent x)
-quiet-step lent x w q = instruction-step lent (live x w) (no-line (live x w) q)
-
--- runs that agree after a first step without a line agree
-quiet-first : (lent : Lent) (n : ℕ) (x : State) (w : ℕ) → lineOf (live x w) ≡ 0
-    → ((y : State) → runN (stepOf lent) n (live y w) ≡ holding w (runN (instructionOf lent) n y))
-    → runN (stepOf lent) (suc n) (live x w) ≡ holding w (runN (instructionOf lent) (suc n) x)
-unfolding runN
-quiet-first lent n x w z rest = rw (instruction-step lent (live x w) z) (first (instructionOf lent x))
+pub quiet-step : (lent : Lent) (x : State) (w : ℕ) → Lineless w → stepOf lent (live x w) ≡ leaving w (quietOf lent x)
+unfolding stepOf quietOf
+quiet-step lent x w q = rw (instruction-step lent (live x w) (no-line (live x w) q)) (by (instructionOf lent x))
   where
-    first : (o : Outcome) → next (runN (stepOf lent) n) (live x w) (leaving w o) ≡ holding w (next (runN (instructionOf lent) n) x o)
-    first (go y) = rw (rest y) refl
-    first (halt k) = refl
+    by : (o : Outcome) → handled (λ k. leaving w (trapped lent k x)) (leaving w o) ≡ leaving w (handled (λ k. trapped lent k x) o)
+    by (go y) = refl
+    by (halt k) = refl
 
--- so one step is the instruction's where a line waits and none is taken
-pub quiet-one : (lent : Lent) (x : State) (w : ℕ) → lineOf (live x w) ≡ 0 → runN (stepOf lent) 1 (live x w) ≡ holding w (runN (instructionOf lent) 1 x)
-unfolding runN
-quiet-one lent x w z = quiet-first lent 0 x w z (λ y. refl)
+-- where g holds w and does what f does, runs agree
+module _ (f : State → Outcome) (g : Live → OutcomeOf Live) (w : ℕ) where
+  first-agrees : (n : ℕ) (x : State) → g (live x w) ≡ leaving w (f x) → ((y : State) → runN g n (live y w) ≡ holding w (runN f n y)) → runN g (suc n) (live x w) ≡ holding w (runN f (suc n) x)
+  unfolding runN
+  first-agrees n x e rest = rw e (first (f x))
+    where
+      first : (o : Outcome) → next (runN g n) (live x w) (leaving w o) ≡ holding w (next (runN f n) x o)
+      first (go y) = rw (rest y) refl
+      first (halt k) = refl
 
-pub quiet-none : (lent : Lent) (x : State) (w : ℕ) → runN (stepOf lent) 0 (live x w) ≡ holding w (runN (instructionOf lent) 0 x)
-unfolding runN
-quiet-none lent x w = refl
+  all-agree : ((x : State) → g (live x w) ≡ leaving w (f x)) → (n : ℕ) (x : State) → runN g n (live x w) ≡ holding w (runN f n x)
+  unfolding runN
+  all-agree e zero x = refl
+  all-agree e (suc n) x = first-agrees n x (e x) (λ y. all-agree e n y)
 
 pub quiet-runs : QuietRuns
-unfolding QuietRuns runN
-quiet-runs lent zero x w q = refl
-quiet-runs lent (suc n) x w q = quiet-first lent n x w (no-line (live x w) q) (λ y. quiet-runs lent n y w q)
+unfolding QuietRuns
+quiet-runs lent n x w q = all-agree (quietOf lent) (stepOf lent) w (λ y. quiet-step lent y w q) n x
+
+-- what is attempted are instructions: all of them, or one where a line waits and none is taken
+pub quiet-attempts : (lent : Lent) (n : ℕ) (x : State) (w : ℕ) → Lineless w → runN (attemptOf lent) n (live x w) ≡ holding w (runN (instructionOf lent) n x)
+quiet-attempts lent n x w q = all-agree (instructionOf lent) (attemptOf lent) w (λ y. instruction-step lent (live y w) (no-line (live y w) q)) n x
+
+pub quiet-one : (lent : Lent) (x : State) (w : ℕ) → lineOf (live x w) ≡ 0 → runN (attemptOf lent) 1 (live x w) ≡ holding w (runN (instructionOf lent) 1 x)
+unfolding runN
+quiet-one lent x w z = first-agrees (instructionOf lent) (attemptOf lent) w 0 x (instruction-step lent (live x w) z) (λ y. refl)
+
+pub quiet-none : (lent : Lent) (x : State) (w : ℕ) → runN (attemptOf lent) 0 (live x w) ≡ holding w (runN (instructionOf lent) 0 x)
+unfolding runN
+quiet-none lent x w = refl
 
 -- a word below 256 has no line
 pub below-lineless : (w : ℕ) → w < 256 → Lineless w
@@ -130,23 +141,31 @@ abbrev Leaves : Live → OutcomeOf Live → Type 0
 Leaves x (go y) = (y .requests ≡ x .requests) ⊎ ((1 ≤ lineOf x) × (y .requests ≡ x .requests - 2 ^ lineOf x))
 Leaves x (halt k) = Unit
 
-step-leaves : (lent : Lent) (x : Live) → Leaves x (stepOf lent x)
-step-leaves lent x = by (eqb (lineOf x) 0) refl
-  where
-    same : (o : Outcome) → Leaves x (leaving (x .requests) o)
-    same (go y) = inl refl
-    same (halt k) = tt
+same-left : (x : Live) (o : Outcome) → Leaves x (leaving (x .requests) o)
+same-left x (go y) = inl refl
+same-left x (halt k) = tt
 
+attempt-leaves : (lent : Lent) (x : Live) → Leaves x (attemptOf lent x)
+attempt-leaves lent x = by (eqb (lineOf x) 0) refl
+  where
     less : 1 ≤ lineOf x → (o : Outcome) → Leaves x (leaving (x .requests - 2 ^ lineOf x) o)
     less l (go y) = inr (l, refl)
     less l (halt k) = tt
 
-    by : (t : Bool) → eqb (lineOf x) 0 ≡ t → Leaves x (stepOf lent x)
-    by true t = rw (instruction-step lent x (eqb-true _ _ t)) (same (instructionOf lent (x .state)))
+    by : (t : Bool) → eqb (lineOf x) 0 ≡ t → Leaves x (attemptOf lent x)
+    by true t = rw (instruction-step lent x (eqb-true _ _ t)) (same-left x (instructionOf lent (x .state)))
     by false t =
         let n = eqb-false (lineOf x) 0 t in
         let l : 1 ≤ lineOf x = omega (arith, n) in
         rw (line-step lent x l) (less l (takenLine lent (lineOf x) (x .state)))
+
+step-leaves : (lent : Lent) (x : Live) → Leaves x (stepOf lent x)
+unfolding stepOf
+step-leaves lent x = by (attemptOf lent x) (attempt-leaves lent x)
+  where
+    by : (o : OutcomeOf Live) → Leaves x o → Leaves x (handled (λ k. leaving (x .requests) (trapped lent k (x .state))) o)
+    by (go y) e = e
+    by (halt k) e = same-left x (trapped lent k (x .state))
 
 -- of the bits of w, v has no more, and all below 8
 abbrev Fewer : ℕ → ℕ → ℕ → Type 0

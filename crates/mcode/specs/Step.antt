@@ -1,4 +1,5 @@
--- One step: a line is taken, or the instruction at the machine's position is decoded to an action and the action is performed.
+-- One step: a line is taken, or the instruction at the machine's position is decoded to an action and the action is performed; a trap of
+-- either leads to the trap process.
 use Prim.Native.Nat.{ℕ, zero, suc, _+_, _-_, _*_, _/_, _%_, _^_}
 use mathlib.Core.Bool.{Bool, true, false, not}
 use mathlib.Core.List.{List, [], _∷_}
@@ -7,7 +8,7 @@ use lib.Dec.{ltb, leb, eqb}
 use Rattle.mcode.specs.Word.{pick, and, or, wrap, bit, byteOf, withByte, oneOf, twoOf, threeOf, paired, highOf, lowOf, doubleOf}
 use Rattle.mcode.specs.Image.{moduleOf, basesOf, codeByte, entryOf, margin}
 use Rattle.mcode.specs.Depths.{frontOf, markAt, marked}
-use Rattle.mcode.specs.Machine.{State, state, Live, live, OutcomeOf, Outcome, go, halt, leaving, address, position, machine, at, framed, depth, top, second, third, fourth, on, take1, take2, take3, put, replace1, replace2, replace3, putPair, pairFor1, pairFor4}
+use Rattle.mcode.specs.Machine.{State, state, Live, live, OutcomeOf, Outcome, go, halt, leaving, handled, stopNumber, address, position, machine, at, framed, depth, top, second, third, fourth, on, take1, take2, take3, put, replace1, replace2, replace3, putPair, pairFor1, pairFor4}
 use Rattle.mcode.specs.declared.Address.{Address}
 use Rattle.mcode.specs.declared.Position.{Position}
 use Rattle.mcode.specs.declared.Registers.{Registers}
@@ -120,7 +121,7 @@ returned lent x =
     (pick (ltb t 0x8000) (backTo lent (r .unit) t x)
     (backTo lent (unitBased (lent .program) (wordIn x l)) (t - 0x8000) x)))
 
--- ---- transfers: 256 b, TRANSFER, and those that lines make
+-- ---- transfers: 256 b, TRANSFER, and those that lines and traps make
 
 -- "words q.. are G, L, position, M, s, v", with k = word s-1
 pub record Process : Type 0 where
@@ -211,19 +212,19 @@ restoredMachine lent b q store r old =
 abbrev pub isTarget : Lent → ℕ → State → Bool
 isTarget lent q x = isProcess lent (length (x .store)) q (processAt (x .store) q)
 
--- the change to the process at q, "reading the store as before the instruction". The old one goes on at position `next`; n words of its
--- stack are saved, and it goes to word c
-unfoldable pub changed : Lent → ℕ → Position → ℕ → ℕ → ℕ → State → State
-changed lent b next n c q x =
+-- the change to the process at q, "reading the store as before the instruction". The old one is saved over `store`: it goes on at position
+-- `next`, n words of its stack are saved, and it goes to word c
+unfoldable pub changed : Lent → ℕ → Position → ℕ → ℕ → ℕ → List ℕ → State → State
+changed lent b next n c q store x =
     let r = x .machine .registers in
     state
     (restoredMachine lent b q (x .store) (processAt (x .store) q) r)
-    (savedStore (getD (basesOf (lent .program)) (r .unit) 0) next c x n)
+    (savedStore (getD (basesOf (lent .program)) (r .unit) 0) next c (state (x .machine) store (x .outputs)) n)
     (x .outputs)
 
 -- "otherwise 35"
 unfoldable pub switched : Lent → ℕ → Position → ℕ → ℕ → ℕ → State → Outcome
-switched lent b next n c q x = pick (isTarget lent q x) (go (changed lent b next n c q x)) (halt BadProcess)
+switched lent b next n c q x = pick (isTarget lent q x) (go (changed lent b next n c q (x .store) x)) (halt BadProcess)
 
 -- "a and c are addresses (32, a first); q = word a. If q = P, word c becomes P and no more."
 unfoldable pub transferred : Lent → ℕ → Position → State → Outcome
@@ -364,10 +365,42 @@ takenLine lent i x =
     pick (eqb q (r .p .0)) (storesTo x (x .machine) (set (x .store) (2 * i + 1) (r .p .0)))
     (switched lent 1 (r .pc) (r .depth) (2 * i + 1) q x)
 
--- one step: "Before an instruction, the highest line is taken." "It counts as a step and clears its bit." "A failed transfer is trap 35
--- with the bit kept."
-unfoldable pub stepOf : Lent → Live → OutcomeOf Live
-stepOf lent x =
+-- "Before an instruction, the highest line is taken." "It counts as a step and clears its bit." "A failed transfer is trap 35 with the bit
+-- kept."
+unfoldable pub attemptOf : Lent → Live → OutcomeOf Live
+attemptOf lent x =
     let i = lineOf x in
     pick (eqb i 0) (leaving (x .requests) (instructionOf lent (x .state)))
     (leaving (x .requests - 2 ^ i) (takenLine lent i (x .state)))
+
+-- ---- the trap process
+
+-- "traps 32 to 40 write their number to word P + 6"
+abbrev pub noted : Stop → State → List ℕ
+noted k x = set (x .store) (x .machine .registers .p .0 + 6) (stopNumber k)
+
+-- the stop k leads to the trap process: it is a trap, "word 14 is not 0 and not P", and the transfer there would not itself fail
+unfoldable pub isCaught : Lent → Stop → State → Bool
+isCaught lent k x =
+    let q = wordIn x 14 in
+    and (leb 32 (stopNumber k)) (and (not (or (eqb q 0) (eqb q (x .machine .registers .p .0)))) (isTarget lent q x))
+
+-- "and then transfer as for a line, with words 14 and 15, the position being the trapping instruction." "The target and its record are
+-- read from the store as before the trap."
+unfoldable pub caught : Lent → Stop → State → State
+caught lent k x =
+    let r = x .machine .registers in
+    changed lent 1 (r .pc) (r .depth) 15 (wordIn x 14) (noted k x) x
+
+-- "If that transfer would itself fail, the run stops with the first trap and nothing is changed."
+unfoldable pub trapped : Lent → Stop → State → Outcome
+trapped lent k x = pick (isCaught lent k x) (go (caught lent k x)) (halt k)
+
+-- one step: a line or an instruction, and the trap of either. "A line's failed transfer counts among these traps: the position is the
+-- instruction about to run, and its bit is kept."
+unfoldable pub stepOf : Lent → Live → OutcomeOf Live
+stepOf lent x = handled (λ k. leaving (x .requests) (trapped lent k (x .state))) (attemptOf lent x)
+
+-- the same where no line is taken
+unfoldable pub quietOf : Lent → State → Outcome
+quietOf lent x = handled (λ k. trapped lent k x) (instructionOf lent x)

@@ -1,5 +1,5 @@
-//! Cases of A.7: requests of all kinds, where machines, stores and programs were not
-//! made for them.
+//! Cases of A.7 and A.8: requests of all kinds and any word 14, where machines, stores
+//! and programs were not made for them.
 
 use super::code::{some_word, PROCESS_NAMES, PROCESS_NAME_COUNT};
 use super::lines::{any_line, line_world};
@@ -12,8 +12,9 @@ use crate::machine::Machine;
 use crate::request::*;
 use std::ops::Range;
 
-/// Machines and stores as no program need have made them, with requests: words 2i that name good and bad processes, which collide with the vectors,
-/// word 3, the own record, the saved stack and one another.
+/// Machines and stores as no program need have made them, with requests: words 2i and
+/// word 14 name good and bad processes, which collide with these words, word 3, the own
+/// record, the saved stack and one another.
 pub fn hostile_case(rng: &mut Rng, scale: &Scale) -> Case {
     let world = line_world(rng, scale);
     let mut case = case_of(rng, world.image.clone(), world.words);
@@ -35,10 +36,11 @@ fn set_lines(rng: &mut Rng, world: &World, run: &mut CaseRun) {
     run.requests = Some(requests);
     let mut machine = run.machine.expect("it was set");
     let vectors = usize::from(target_word(FIRST))..usize::from(old_word(LAST)) + 1;
-    let low = if rng.once_in(3) {
-        HELD..HELD + 1
-    } else {
-        vectors
+    let traps = Machine::TRAP_TARGET..Machine::TRAP_OLD + 1;
+    let low = match rng.below(6) {
+        0 | 1 => HELD..HELD + 1,
+        2 | 3 => traps,
+        _ => vectors,
     };
     match rng.below(6) {
         0 => machine.p = near(rng, &low, 6) as u16,
@@ -53,6 +55,10 @@ fn set_lines(rng: &mut Rng, world: &World, run: &mut CaseRun) {
     for line in lines(requests) {
         let word = hostile_target(rng, world, machine.p, &[&own, &saved, &low], run);
         run.store_patches.push((target_word(line), word));
+    }
+    if !rng.once_in(3) {
+        let word = hostile_target(rng, world, machine.p, &[&own, &saved, &low], run);
+        run.store_patches.push((TRAP_TARGET, word));
     }
     let (some, one) = (rng.word() & rng.word(), bit(any_line(rng)));
     let held = rng.pick(&[0, some, one]);
@@ -89,6 +95,28 @@ fn hostile_target(
     q
 }
 
+/// Word 14.
+const TRAP_TARGET: u16 = Machine::TRAP_TARGET as u16;
+
+/// Gives a few runs any word 14: often one of the words that they patch, which may name
+/// a process. Mostly it stays for that run alone.
+pub fn give_word_14(rng: &mut Rng, runs: &mut [CaseRun], words: usize) {
+    for i in 0..runs.len() {
+        if words <= Machine::TRAP_OLD || !rng.once_in(24) {
+            continue;
+        }
+        let mut word = some_word(rng);
+        let patches = &mut runs[i].store_patches;
+        if !patches.is_empty() && !rng.once_in(3) {
+            word = rng.pick(patches).1;
+        }
+        patches.push((TRAP_TARGET, word));
+        if let Some(next) = runs.get_mut(i + 1).filter(|_| !rng.once_in(8)) {
+            next.store_patches.push((TRAP_TARGET, 0));
+        }
+    }
+}
+
 /// A word of requests of any kind: no line, one, some, all, with bits 0 to 7 or
 /// without.
 pub fn any_requests(rng: &mut Rng) -> u16 {
@@ -104,15 +132,25 @@ pub fn any_requests(rng: &mut Rng) -> u16 {
     lines & LINES | rng.pick(&[0, others, 255]) & !LINES
 }
 
+/// The processes that a program's transfers know.
+fn known_processes(runs: &[CaseRun]) -> Vec<u16> {
+    let names = PROCESS_NAMES..PROCESS_NAMES + PROCESS_NAME_COUNT;
+    let patches = runs[0].store_patches.iter();
+    let named = patches.filter(|(address, _)| names.contains(address));
+    named.map(|&(_, q)| q).collect()
+}
+
+/// Makes one of the processes that a program's transfers know the trap process.
+pub fn give_trap_process(rng: &mut Rng, runs: &mut [CaseRun]) {
+    let process = rng.pick(&known_processes(runs));
+    runs[0].store_patches.push((TRAP_TARGET, process));
+}
+
 /// Gives a program's runs lines that go to the processes which its transfers know,
 /// and requests. Some runs go on with what is left of them.
 pub fn give_lines(rng: &mut Rng, runs: &mut [CaseRun]) {
-    let names = PROCESS_NAMES..PROCESS_NAMES + PROCESS_NAME_COUNT;
+    let processes = known_processes(runs);
     let patches = &mut runs[0].store_patches;
-    let named = patches
-        .iter()
-        .filter(|(address, _)| names.contains(address));
-    let processes: Vec<u16> = named.map(|&(_, q)| q).collect();
     for line in FIRST..=LAST {
         patches.push((target_word(line), rng.pick(&processes)));
     }

@@ -18,12 +18,12 @@ use std::ops::Range;
 /// The words behind Z that the cases use, one part after another, and their number.
 const OWN_RECORD: usize = 0;
 const SAVED_STACK: usize = 30;
-const FRAME: usize = 55;
+pub const FRAME: usize = 55;
 /// The record of a process, and its stack behind it; of as many as there are.
 const PROCESSES: usize = 65;
 const STACK: usize = 15;
 const PROCESS: usize = 48;
-const ROOM: usize = PROCESSES + 3 * PROCESS;
+pub const ROOM: usize = PROCESSES + 3 * PROCESS;
 
 /// A random line.
 pub fn any_line(rng: &mut Rng) -> u8 {
@@ -56,7 +56,7 @@ pub fn line_world(rng: &mut Rng, scale: &Scale) -> World {
 
 /// More procedures: 16 literals and a TRAP; a jump back; a RTN; one that clears
 /// word 3 again and again; and a transfer.
-fn add_places(rng: &mut Rng, module: &mut Source) {
+pub fn add_places(rng: &mut Rng, module: &mut Source) {
     let steps = [literals(rng, MOST.into()), vec![TRAP]].concat();
     let codes: [&[u8]; 5] = [
         &steps,
@@ -88,7 +88,7 @@ pub fn literal(rng: &mut Rng, world: &World) -> Place {
 }
 
 /// A place with no word on the stack, with some, or with the most.
-fn place_of_size(rng: &mut Rng, world: &World, size: usize) -> Place {
+pub fn place_of_size(rng: &mut Rng, world: &World, size: usize) -> Place {
     place(rng, world, |place| match place.mark.depth {
         0 => size == 0,
         MOST => size == 2,
@@ -136,7 +136,7 @@ impl Process {
         }
     }
 
-    fn stack(&self) -> Range<usize> {
+    pub fn stack(&self) -> Range<usize> {
         let lowest = usize::from(self.lowest);
         lowest..lowest + usize::from(self.place.mark.depth) + 1
     }
@@ -192,7 +192,12 @@ pub fn step(
 }
 
 /// A run with this line alone open. Others wait, and bits 0 to 7 are anything.
-fn line_run(rng: &mut Rng, mut machine: Machine, line: u8, patches: Vec<(u16, u16)>) -> CaseRun {
+pub fn line_run(
+    rng: &mut Rng,
+    mut machine: Machine,
+    line: u8,
+    patches: Vec<(u16, u16)>,
+) -> CaseRun {
     machine.m &= !bit(line);
     let held = rng.word() & !bit(line);
     let waiting = rng.word() & rng.word() & (machine.m | held | !LINES);
@@ -260,7 +265,7 @@ pub fn collisions_case(rng: &mut Rng, scale: &Scale, round: usize) -> Case {
 }
 
 /// Moves a machine's registers or a process so that two of their parts collide.
-fn collide(rng: &mut Rng, collision: usize, machine: &mut Machine, process: &mut Process) {
+pub fn collide(rng: &mut Rng, collision: usize, machine: &mut Machine, process: &mut Process) {
     let saved = usize::from(machine.depth) + 1;
     let old = usize::from(old_word(process.line));
     let old = old..old + 1;

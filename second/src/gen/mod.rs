@@ -1,5 +1,6 @@
 //! The seeded generator of cases. Case `index` of a seed is always the same.
 
+mod caught;
 mod code;
 mod expression;
 mod fault;
@@ -10,6 +11,7 @@ mod requests;
 pub mod rng;
 mod saved;
 mod state;
+mod traps;
 mod unsigned;
 
 use crate::api;
@@ -85,7 +87,7 @@ pub const SMALL: Scale = Scale {
 };
 
 /// The cases of a round, each of a kind of its own or one of several.
-pub const ROUND: u64 = 47;
+pub const ROUND: u64 = 51;
 
 /// One case of a seed.
 pub fn case(scale: &Scale, seed: u64, index: u64) -> Case {
@@ -125,11 +127,16 @@ pub fn case(scale: &Scale, seed: u64, index: u64) -> Case {
         42 => lines::collisions_case(rng, scale, round as usize),
         kind @ 43..=45 => line_case(rng, scale, kind, round as usize),
         46 => hostile::hostile_case(rng, scale),
+        47 => traps::opcodes_case(rng, scale, round as usize),
+        48 => traps::collisions_case(rng, scale, round as usize),
+        49 => traps::fates_case(rng, scale, round as usize),
+        50 => caught::turn_case(rng, scale, round as usize),
         _ => sizes_case(rng, scale),
     };
     // The others are made run by run.
     if matches!(index % ROUND, 0..=30 | 32..=35) {
         give_requests(rng, &mut case.runs);
+        hostile::give_word_14(rng, &mut case.runs, case.store_length);
     }
     keep_inputs(rng, scale, &mut case.runs);
     case
@@ -283,6 +290,9 @@ fn program_case(rng: &mut Rng, scale: &Scale) -> Case {
     case.runs[0].store_patches = world.processes(rng);
     if rng.once_in(4) {
         hostile::give_lines(rng, &mut case.runs);
+    }
+    if rng.once_in(4) {
+        hostile::give_trap_process(rng, &mut case.runs);
     }
     case
 }

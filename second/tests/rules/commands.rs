@@ -76,6 +76,29 @@ fn reading_with_requests() {
     assert_eq!(text(&output.stdout), "refused 3\n");
 }
 
+/// A caught trap is told in a last line. The program makes a process at 200 that begins
+/// as it does itself, names it in word 14, and traps with 5: first in process 131, then in
+/// the trap process, where it stops.
+#[test]
+fn reading_tells_of_a_caught_trap() {
+    let mut code = Vec::new();
+    for (address, word) in [(200, 128), (202, 0), (204, 221), (205, 4096), (14, 200)] {
+        let ([a, b], [c, d]) = (u16::to_be_bytes(address), u16::to_be_bytes(word));
+        code.extend([0o022, a, b, 0o022, c, d, 0o160]);
+    }
+    code.extend([0o005, 0o304]);
+    let image = [&[1, 0, 0, code.len() as u8], &code[..]].concat();
+    let zeros = ["0"; 16].join(" ");
+    // Fifteen steps write, one puts 5; the trap; the same again.
+    let reading = format!("stop 40 code 5 steps 33 module 0 pc 36 depth 1\n{zeros}\n");
+    let caught = "caught 40 process 131 module 0 pc 36\n";
+    let output = second(&["reading"], &image);
+    assert_eq!(text(&output.stdout), format!("{reading}{caught}"));
+    let output = second(&["reading", "--requests", "1", "--after", "9"], &image);
+    let expected = format!("{reading}requests 1\n{caught}");
+    assert_eq!(text(&output.stdout), expected);
+}
+
 /// Requests that are given after some steps: before the end, or never. Options stand
 /// in any order, and the last of a name holds.
 #[test]

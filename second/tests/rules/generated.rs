@@ -2,13 +2,14 @@
 
 use crate::line_kinds::is_of_lines;
 use crate::rig::FF;
+use crate::trap_kinds::is_of_traps;
 use second::api::{run_observed, Buffers};
 use second::assemble::{self, Source};
 use second::case::{decode, encode, replay, Case, CaseRun, Checksum};
 use second::coverage::{Coverage, Steps};
 use second::depths::fits;
 use second::gen::{self, Scale, FULL, ROUND, SMALL};
-use second::image::{parse, Module, Procedure};
+use second::image::{parse, Module, Procedure, Program};
 use second::mark::Mark;
 use second::opcode::row;
 use second::{load, run, start, Machine, RunAnswer};
@@ -117,6 +118,30 @@ fn everything_is_covered() {
     assert_eq!(
         of_lines.count(),
         40 + 60 + 27 + 3 + 6 + 8 + 11 + 3 + 2 + 4 + 3
+    );
+    // What A.8 makes of traps: nine numbers, each of each opcode that has it and 35 of
+    // each line; collisions, and what is beside a caught trap; words 14 that catch none,
+    // at an instruction and at a line.
+    let opcodes = beginning("no caught of an opcode: ");
+    let stops = faults.iter().filter(|fault| {
+        let stop = fault.split_once(" never stopped with ");
+        stop.is_some_and(|(_, stop)| stop != "31" && !stop.contains("address"))
+    });
+    assert_eq!(opcodes, stops.count());
+    assert_eq!(beginning("no caught 35 of a line, number "), 8);
+    assert_eq!(beginning("no caught traps that restore "), 3 * 10);
+    assert_eq!(beginning("no caught traps that save "), 3 * 10);
+    assert_eq!(beginning("no caught traps with "), 18);
+    assert_eq!(beginning("no caught traps in a run "), 11);
+    assert_eq!(beginning("no traps not caught, with word 14 of "), 14);
+    let of_a_line = "no traps not caught of a line, with word 14 of ";
+    assert_eq!(beginning(of_a_line), 14);
+    assert_eq!(beginning("no traps not made, "), 3);
+    assert_eq!(beginning("no trapped process "), 4);
+    let of_traps = faults.iter().filter(|fault| is_of_traps(fault));
+    assert_eq!(
+        of_traps.count(),
+        9 + opcodes + 8 + 60 + 18 + 11 + 14 + 14 + 3 + 4
     );
 }
 
@@ -808,6 +833,194 @@ fn interrupted_expressions_come_to_their_end() {
     assert_eq!(ended, 42);
 }
 
+/// The cases of A.8 in so many rounds that each has had its turn, but for one kind.
+fn cases_of_traps(
+    scale: &Scale,
+    seed: u64,
+    left_out: Option<u64>,
+) -> impl Iterator<Item = Case> + '_ {
+    let indices = (0..20 * ROUND).filter(move |index| {
+        let kind = index % ROUND;
+        (47..=50).contains(&kind) && left_out != Some(kind)
+    });
+    indices.map(move |index| gen::case(scale, seed, index))
+}
+
+fn missing_traps(cases: impl Iterator<Item = Case>) -> Vec<String> {
+    let mut missing = Coverage::of(cases).faults();
+    missing.retain(|fault| is_of_traps(fault));
+    missing
+}
+
+/// They have every kind, whatever the seed.
+#[test]
+fn traps_are_generated() {
+    let seeds = (1..=24).map(|seed| (&SMALL, seed));
+    for (scale, seed) in seeds.chain([(&FULL, 1)]) {
+        let missing = missing_traps(cases_of_traps(scale, seed, None));
+        assert_eq!(missing, [""; 0], "seed {seed}");
+    }
+}
+
+/// Without the cases of one kind, something is missing.
+#[test]
+fn kinds_of_traps_are_needed() {
+    let check = |left_out: u64, expected: &[&str]| {
+        let missing = missing_traps(cases_of_traps(&SMALL, SEED, Some(left_out)));
+        for kind in expected {
+            assert!(missing.contains(&format!("no {kind}")), "{missing:?}");
+        }
+    };
+    check(
+        47,
+        &[
+            "caught 33",
+            "caught of an opcode: 121 SGD with 32",
+            "caught of an opcode: 377 CL15 with 33",
+        ],
+    );
+    check(
+        48,
+        &[
+            "caught traps that save 16 words, with the saved stack over the own record",
+            "caught traps that restore 16 words, with word 15 in the target's stack",
+            "caught traps with the number under a saved word",
+            "caught traps with the number in the target's count",
+            "caught traps with the number in word 14",
+        ],
+    );
+    check(
+        49,
+        &[
+            "caught 35 of a line, number 8",
+            "caught traps in a run of a line that is taken then",
+            "traps not caught, with word 14 of q, and k above 16",
+            "traps not caught of a line, with word 14 of q, and G no base",
+        ],
+    );
+    check(
+        50,
+        &[
+            "caught traps in a run three times or more",
+            "caught traps in a run in the trap process",
+            "caught traps in a run before an end",
+            "traps not made, with a good process in word 14, but a stop with 31",
+            "trapped process resumed by a transfer, where depths are saved",
+            "trapped process resumed by a line",
+        ],
+    );
+}
+
+/// Each trap of each opcode that a case was made for is caught, and is a stop without a
+/// trap process.
+#[test]
+fn traps_are_caught_in_turn() {
+    for round in 0..20 {
+        let case = gen::case(&SMALL, SEED, ROUND * round + 47);
+        let outcome = replay(&case, &mut ());
+        for two in outcome.runs.chunks(2) {
+            let caught = two[0].caught_alone().expect("it is caught");
+            assert_eq!(caught.old, two[0].handed);
+            assert_eq!(two[1].answer.number, caught.trap);
+            assert_eq!((two[1].answer.count, two[1].handed), (0, caught.old));
+        }
+    }
+}
+
+/// An expression that a trap interrupts comes to its end, with the divisor that its trap
+/// process has given it; also in one run.
+#[test]
+fn trapped_expressions_come_to_their_end() {
+    for round in (0..64).filter(|round| round % 4 >= 2) {
+        let case = gen::case(&SMALL, SEED, ROUND * round + 50);
+        let outcome = replay(&case, &mut ());
+        let [.., parts, whole] = &outcome.runs[..] else {
+            panic!("{round}");
+        };
+        assert_eq!(whole.caught.len(), 1);
+        for run in [parts, whole] {
+            assert_eq!(run.answer.number, 31, "{round}");
+            assert_eq!(run.outputs, whole.outputs);
+        }
+    }
+}
+
+/// A caught trap as the only step writes what A.8 says, in its order, and goes on with
+/// what the record said before.
+#[test]
+fn caught_traps_are_as_the_paper_says() {
+    let mut seen = 0;
+    for case in gen::cases(&SMALL, SEED, 3008) {
+        let outcome = replay(&case, &mut ());
+        for run in &outcome.runs {
+            let Some(caught) = run.caught_alone() else {
+                continue;
+            };
+            seen += 1;
+            let program = parse(&case.image).unwrap();
+            let (old, new) = (&run.handed, &run.answer.machine);
+            assert_eq!((old, new), (&caught.old, &caught.new));
+            assert_eq!(run.answer.requests, run.requests);
+            // Another trap behind it may have a code.
+            assert!(run.answer.code == 0 || run.answer.number == 40);
+            assert_eq!(run.after, written(&program, old, caught.trap, &run.before));
+            let q = usize::from(run.before[14]);
+            let [g, l, position, m, s, v] = run.before[q..q + 6] else {
+                panic!("six words");
+            };
+            assert!(q != 0 && new.p == run.before[14] && new.p != old.p);
+            assert_eq!(program.modules[usize::from(new.module)].base, g.into());
+            assert_eq!((new.l, new.pc, new.m, new.h), (l, position, m, v - 24));
+            let k = run.before[usize::from(s) - 1];
+            assert_eq!((u16::from(new.depth), new.s), (k, s - 1 - k));
+            let words = &run.before[usize::from(new.s)..usize::from(s) - 1];
+            let stack = new.stack[..usize::from(k)].iter().rev();
+            assert!(stack.eq(words));
+        }
+    }
+    assert!(seen > 800, "{seen}");
+}
+
+/// The store behind a caught trap.
+fn written(program: &Program, old: &Machine, trap: u8, before: &[u16]) -> Vec<u16> {
+    let mut store = before.to_vec();
+    let mut write = |address: usize, word: u16| store[address] = word;
+    let (p, s, depth) = (
+        usize::from(old.p),
+        usize::from(old.s),
+        usize::from(old.depth),
+    );
+    write(p + 6, trap.into());
+    for i in 0..depth {
+        write(s + i, old.stack[depth - 1 - i]);
+    }
+    write(s + depth, depth as u16);
+    let base = program.modules[usize::from(old.module)].base as u16;
+    let raised = (s + depth + 1) as u16;
+    let record = [base, old.l, old.pc, old.m, raised, old.h + 24];
+    for (i, word) in record.into_iter().enumerate() {
+        write(p + i, word);
+    }
+    write(15, old.p);
+    store
+}
+
+/// Any word 14 comes in cases of other kinds, and most traps of these are stops.
+#[test]
+fn other_cases_catch_few_traps() {
+    let (mut caught, mut stops) = (0, 0);
+    for (index, case) in gen::cases(&SMALL, SEED, 3008).enumerate() {
+        if index as u64 % ROUND >= 47 {
+            continue;
+        }
+        for run in replay(&case, &mut ()).runs {
+            caught += run.caught.len();
+            stops += usize::from(run.answer.number >= 32);
+        }
+    }
+    assert!(caught > 50 && stops > 10 * caught, "{caught} {stops}");
+}
+
 /// 37 does not cut programs short: where UADD, USUB and UMUL are only the means,
 /// most go on, and words that are saved and restored step by step come to their
 /// TRAP.
@@ -1155,8 +1368,8 @@ fn every_point_of_a_run_is_a_machine() {
     });
 }
 
-/// The opcodes and the lines that an observer is told are those counted; each line
-/// clears its bit.
+/// The opcodes, the lines and the caught traps that an observer is told are those
+/// counted; each line clears its bit.
 #[test]
 fn an_observer_sees_the_steps_counted() {
     for_each_run(gen::cases(&FULL, 13, 200), |case, map, run, mut before| {
@@ -1172,7 +1385,8 @@ fn an_observer_sees_the_steps_counted() {
         let answer = run_observed(machine, buffers, requests, run.budget, &mut steps);
         let instructions: u64 = steps.opcodes.iter().sum();
         let lines: u64 = steps.lines.iter().sum();
-        assert_eq!(u64::from(answer.count), instructions + lines);
+        let traps: u64 = steps.traps.iter().sum();
+        assert_eq!(u64::from(answer.count), instructions + lines + traps);
         let taken = requests & !answer.requests;
         assert_eq!(u64::from(taken.count_ones()), lines);
     });

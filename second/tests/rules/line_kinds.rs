@@ -30,7 +30,7 @@ pub fn is_of_lines(fault: &str) -> bool {
 /// Module 0: sixteen literals and a TRAP at 16; a NOP at 17 and a jump back to it; a
 /// RTN at 20; STORE at 21, NOP at 22, STORE at 23, LI1, TRAP; LI3, LI0, SSW0 at 28, a
 /// jump back; LI0, LI0, TRA 1 at 33, a jump back. Module 1: a NOP and a jump back.
-fn modules() -> [Source; 2] {
+pub fn modules() -> [Source; 2] {
     let code = [
         &[1; 16][..],
         &[0o304, 0o336, 0o035, 2, 0o354],
@@ -47,12 +47,12 @@ fn modules() -> [Source; 2] {
 }
 
 /// A place: module, position, depth.
-type At = (u8, u16, u8);
+pub type At = (u8, u16, u8);
 
-const NOP: At = (0, 17, 0);
-const STORED: At = (0, 22, 0);
+pub const NOP: At = (0, 17, 0);
+pub const STORED: At = (0, 22, 0);
 const STORED_TWICE: At = (0, 24, 0);
-const ELSEWHERE: At = (1, 0, 0);
+pub const ELSEWHERE: At = (1, 0, 0);
 
 /// A run from a machine, and a process that a line goes to.
 #[derive(Clone, Copy)]

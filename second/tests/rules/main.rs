@@ -18,4 +18,6 @@ mod rig;
 mod saved;
 mod table;
 mod transfer;
+mod trap_kinds;
+mod traps;
 mod whole;

@@ -182,6 +182,11 @@ fn each_condition_of_35_singly() {
 
 /// Each condition of 35, where a rig is about to change to the good process.
 pub fn check_conditions(before: impl Fn() -> Rig) {
+    check_conditions_of(35, before);
+}
+
+/// The same, where it stops with this number if one is broken.
+pub fn check_conditions_of(stop: u8, before: impl Fn() -> Rig) {
     let check = |number: u8, change: fn(&mut Record), words: &[(u16, u16)]| {
         let mut rig = before();
         let mut record = GOOD;
@@ -189,7 +194,7 @@ pub fn check_conditions(before: impl Fn() -> Rig) {
         poke_record(&mut rig, Q, record);
         rig.poke(words);
         if number == 35 {
-            rig.expect_stop(35, 0);
+            rig.expect_stop(stop, 0);
         } else {
             assert_eq!(rig.run(1).count, 1);
         }

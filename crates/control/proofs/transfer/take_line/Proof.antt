@@ -42,7 +42,7 @@ same-length-2 c = search needs
 
 returns-2 : tie.Need-returns-2
 unfolding takenLine
-returns-2 c = ((λ lent bytes words h out. rw (← c .before .before .before .before .before .before .word-at .ensures, ne-eqb _ _ (c .before .before .before .before .if1 .left), c .trapped .ensures) (sym (switched-not h (c .before .before .before .before .before .before .before .before .before .before .args .r) _ _ _ _ _ _ _ out (c .before .before .before .before .before .before .before .before .before .before .pre .0) (sym (c .before .before .target .ensures) ∙ c .before .if2 .taken)))), anchored-as _ _ _ _ (c .before .before .before .before .before .before .before .before .before .before .pre .1 .1 .0) (c .trapped .ensures))
+returns-2 c = ((λ lent bytes words h out. rw (← c .before .before .before .before .before .before .word-at .ensures, ne-eqb _ _ (c .before .before .before .before .if1 .left), c .trapped .ensures) (sym (switched-not h (c .before .before .before .before .before .before .before .before .before .before .args .r) _ _ _ out (c .before .before .before .before .before .before .before .before .before .before .pre .0) (sym (c .before .before .target .ensures) ∙ c .before .if2 .taken) _ _ _ _))), anchored-as _ _ _ _ (c .before .before .before .before .before .before .before .before .before .before .pre .1 .1 .0) (c .trapped .ensures))
 
 add-change : tie.Need-add-change
 add-change c = search needs
@@ -60,7 +60,7 @@ returns-3 : tie.Need-returns-3
 unfolding takenLine
 returns-3 c =
     let n = not-so (c .before .before .before .before .before .before .target .ensures) (c .before .before .before .before .before .if2 .left) in
-    ((λ lent bytes words h out. rw (← c .before .before .before .before .before .before .before .before .before .before .word-at .ensures, ne-eqb _ _ (c .before .before .before .before .before .before .before .before .if1 .left), c .before .before .change .ensures .0, c .before .before .change .ensures .1, c .before .before .change .ensures .2, c .before .before .before .before .before .before .target .ensures) (sym (switched-in h (c .before .before .before .before .before .before .before .before .before .before .before .before .before .before .args .r) _ _ _ _ _ _ _ out (c .before .before .before .before .before .before .before .before .before .before .before .before .before .before .pre .1 .1 .0) n))), anchored-resumed _ _ 1 (c .before .before .before .before .before .before .before .before .before .before .word-at .result) (processAt (now (c .before .before .before .before .before .before .before .before .before .before .before .before .before .before .args .store)) (c .before .before .before .before .before .before .before .before .before .before .word-at .result)) (c .before .before .before .before .before .before .before .before .before .before .before .before .before .before .args .r) _ (rw (c .before .before .before .before .before .before .target .ensures) (target-few _ _ _ _ (c .before .before .before .before .before .before .before .before .before .before .before .before .before .before .pre .0) n)) (c .before .before .change .ensures .0))
+    ((λ lent bytes words h out. rw (← c .before .before .before .before .before .before .before .before .before .before .word-at .ensures, ne-eqb _ _ (c .before .before .before .before .before .before .before .before .if1 .left), c .before .before .change .ensures .0, c .before .before .change .ensures .1, c .before .before .change .ensures .2, c .before .before .before .before .before .before .target .ensures) (sym (switched-in h (c .before .before .before .before .before .before .before .before .before .before .before .before .before .before .args .r) _ _ _ out (c .before .before .before .before .before .before .before .before .before .before .before .before .before .before .pre .1 .1 .0) n _ _ _ _))), anchored-resumed _ _ 1 (c .before .before .before .before .before .before .before .before .before .before .word-at .result) (processAt (now (c .before .before .before .before .before .before .before .before .before .before .before .before .before .before .args .store)) (c .before .before .before .before .before .before .before .before .before .before .word-at .result)) (c .before .before .before .before .before .before .before .before .before .before .before .before .before .before .args .r) _ (rw (c .before .before .before .before .before .before .target .ensures) (target-few _ _ _ _ (c .before .before .before .before .before .before .before .before .before .before .before .before .before .before .pre .0) n)) (c .before .before .change .ensures .0))
 
 pub take-line-spec : {M : Type 1} → statement M
 take-line-spec =

@@ -66,7 +66,7 @@ same-length-2 c = search needs
 
 returns-4 : tie.Need-returns-4
 unfolding performOf transferred
-returns-4 c = ((λ lent bytes words h out. rw (← c .before .before .before .before .before .before .before .before .before .before .before .before .top-of .ensures, ← c .before .before .before .before .before .before .before .before .before .second-of .ensures, lt-ltb _ _ (c .before .before .before .before .before .before .before .before .before .before .before .if1 .left), lt-ltb _ _ (c .before .before .before .before .before .before .before .before .if2 .left), ← c .before .before .before .before .before .before .word-at .ensures, ne-eqb _ _ (c .before .before .before .before .if3 .left), c .trapped3 .ensures) (sym (switched-not h (c .before .before .before .before .before .before .before .before .before .before .before .before .before .before .before .before .args .r) _ _ _ _ _ _ _ out (c .before .before .before .before .before .before .before .before .before .before .before .before .before .before .before .before .pre .0) (sym (c .before .before .target .ensures) ∙ c .before .if4 .taken)))), anchored-as _ _ _ _ (c .before .before .before .before .before .before .before .before .before .before .before .before .before .before .before .before .pre .1 .1 .0) (c .trapped3 .ensures))
+returns-4 c = ((λ lent bytes words h out. rw (← c .before .before .before .before .before .before .before .before .before .before .before .before .top-of .ensures, ← c .before .before .before .before .before .before .before .before .before .second-of .ensures, lt-ltb _ _ (c .before .before .before .before .before .before .before .before .before .before .before .if1 .left), lt-ltb _ _ (c .before .before .before .before .before .before .before .before .if2 .left), ← c .before .before .before .before .before .before .word-at .ensures, ne-eqb _ _ (c .before .before .before .before .if3 .left), c .trapped3 .ensures) (sym (switched-not h (c .before .before .before .before .before .before .before .before .before .before .before .before .before .before .before .before .args .r) _ _ _ out (c .before .before .before .before .before .before .before .before .before .before .before .before .before .before .before .before .pre .0) (sym (c .before .before .target .ensures) ∙ c .before .if4 .taken) _ _ _ _))), anchored-as _ _ _ _ (c .before .before .before .before .before .before .before .before .before .before .before .before .before .before .before .before .pre .1 .1 .0) (c .trapped3 .ensures))
 
 sub-change : tie.Need-sub-change
 sub-change c = omega (arith, c .before .before .before .before .before .before .before .before .before .before .before .before .before .before .before .before .before .pre .1 .1 .1 .0)
@@ -84,7 +84,7 @@ returns-5 : tie.Need-returns-5
 unfolding performOf transferred
 returns-5 c =
     let n = not-so (c .before .before .before .before .before .before .target .ensures) (c .before .before .before .before .before .if4 .left) in
-    ((λ lent bytes words h out. rw (← c .before .before .before .before .before .before .before .before .before .before .before .before .before .before .before .before .top-of .ensures, ← c .before .before .before .before .before .before .before .before .before .before .before .before .before .second-of .ensures, lt-ltb _ _ (c .before .before .before .before .before .before .before .before .before .before .before .before .before .before .before .if1 .left), lt-ltb _ _ (c .before .before .before .before .before .before .before .before .before .before .before .before .if2 .left), ← c .before .before .before .before .before .before .before .before .before .before .word-at .ensures, ne-eqb _ _ (c .before .before .before .before .before .before .before .before .if3 .left), c .before .before .change .ensures .0, c .before .before .change .ensures .1, c .before .before .change .ensures .2, c .before .before .before .before .before .before .target .ensures) (sym (switched-in h (c .before .before .before .before .before .before .before .before .before .before .before .before .before .before .before .before .before .before .before .before .args .r) _ _ _ _ _ _ _ out (c .before .before .before .before .before .before .before .before .before .before .before .before .before .before .before .before .before .before .before .before .pre .1 .1 .0) n))), anchored-resumed _ _ (c .before .before .before .before .before .before .before .before .before .before .before .before .before .before .before .before .before .before .before .before .args .b) (c .before .before .before .before .before .before .before .before .before .before .word-at .result) (processAt (now (c .before .before .before .before .before .before .before .before .before .before .before .before .before .before .before .before .before .before .before .before .args .store)) (c .before .before .before .before .before .before .before .before .before .before .word-at .result)) (c .before .before .before .before .before .before .before .before .before .before .before .before .before .before .before .before .before .before .before .before .args .r) _ (rw (c .before .before .before .before .before .before .target .ensures) (target-few _ _ _ _ (c .before .before .before .before .before .before .before .before .before .before .before .before .before .before .before .before .before .before .before .before .pre .0) n)) (c .before .before .change .ensures .0))
+    ((λ lent bytes words h out. rw (← c .before .before .before .before .before .before .before .before .before .before .before .before .before .before .before .before .top-of .ensures, ← c .before .before .before .before .before .before .before .before .before .before .before .before .before .second-of .ensures, lt-ltb _ _ (c .before .before .before .before .before .before .before .before .before .before .before .before .before .before .before .if1 .left), lt-ltb _ _ (c .before .before .before .before .before .before .before .before .before .before .before .before .if2 .left), ← c .before .before .before .before .before .before .before .before .before .before .word-at .ensures, ne-eqb _ _ (c .before .before .before .before .before .before .before .before .if3 .left), c .before .before .change .ensures .0, c .before .before .change .ensures .1, c .before .before .change .ensures .2, c .before .before .before .before .before .before .target .ensures) (sym (switched-in h (c .before .before .before .before .before .before .before .before .before .before .before .before .before .before .before .before .before .before .before .before .args .r) _ _ _ out (c .before .before .before .before .before .before .before .before .before .before .before .before .before .before .before .before .before .before .before .before .pre .1 .1 .0) n _ _ _ _))), anchored-resumed _ _ (c .before .before .before .before .before .before .before .before .before .before .before .before .before .before .before .before .before .before .before .before .args .b) (c .before .before .before .before .before .before .before .before .before .before .word-at .result) (processAt (now (c .before .before .before .before .before .before .before .before .before .before .before .before .before .before .before .before .before .before .before .before .args .store)) (c .before .before .before .before .before .before .before .before .before .before .word-at .result)) (c .before .before .before .before .before .before .before .before .before .before .before .before .before .before .before .before .before .before .before .before .args .r) _ (rw (c .before .before .before .before .before .before .target .ensures) (target-few _ _ _ _ (c .before .before .before .before .before .before .before .before .before .before .before .before .before .before .before .before .before .before .before .before .pre .0) n)) (c .before .before .change .ensures .0))
 
 pub transfer-spec : {M : Type 1} → statement M
 transfer-spec =

@@ -2,7 +2,7 @@ use mathlib.Core.Path.{sym, _∙_}
 use lib.ListN.{length}
 use native.Mathlib.Omega.{arith}
 use Rattle.actions.specs.Core.{held}
-use Rattle.engine.proofs.Turns.{Going, lends, begins, asks, listed, goes-on, stops-so, stands-still}
+use Rattle.engine.proofs.Turns.{Going, lends, begins, asks, listed, goes-on, stops-so, named, stands-still}
 use borrow.Author.Needs.{needs}
 use Rattle.engine.proofs.steps.instructions.Statement.{statement}
 use Rattle.engine.proofs.steps.instructions.Tie as tie
@@ -47,7 +47,7 @@ same-length-2 c = c .before .before .before .before .before .before .before .tur
 returns : tie.Need-returns Inv-steps μ-steps
 returns c =
     let e = c .before .before .before .before .before .before .before .turn .ensures .0 _ (lends _ (c .before .before .before .before .before .before .before .before .before .before .before .steps .inv .ready .prepared)) in
-    (stops-so _ _ _ _ _ _ _ _ _ _ _ _ (c .before .before .before .before .before .before .before .before .before .before .before .steps .inv) (c .before .before .before .before .before .before .before .turn .result) _ _ _ e (c .before .before .before .before .before .before .before .turn .ensures .1) (c .if1 .taken), c .if1 .taken, stands-still _ _ _ _ _ _ _ _ _ _ _ _ (c .before .before .before .before .before .before .before .before .before .before .before .steps .inv) (c .before .before .before .before .before .before .before .turn .result) _ _ _ e (c .before .before .before .before .before .before .before .turn .ensures .1) (c .if1 .taken))
+    (stops-so _ _ _ _ _ _ _ _ _ _ _ _ (c .before .before .before .before .before .before .before .before .before .before .before .steps .inv) (c .before .before .before .before .before .before .before .turn .result) _ _ _ e (c .before .before .before .before .before .before .before .turn .ensures .1) (c .if1 .taken), named _ _ _ _ _ _ _ _ _ _ _ _ (c .before .before .before .before .before .before .before .before .before .before .before .steps .inv) (c .before .before .before .before .before .before .before .turn .result) _ _ _ e (c .before .before .before .before .before .before .before .turn .ensures .1) (c .if1 .taken), stands-still _ _ _ _ _ _ _ _ _ _ _ _ (c .before .before .before .before .before .before .before .before .before .before .before .steps .inv) (c .before .before .before .before .before .before .before .turn .result) _ _ _ e (c .before .before .before .before .before .before .before .turn .ensures .1) (c .if1 .taken))
 
 pub instructions-spec : {M : Type 1} → statement M
 instructions-spec =

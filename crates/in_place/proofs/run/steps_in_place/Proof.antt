@@ -54,7 +54,7 @@ use denote.Signature.{plain, shrSliceOf, shrRefTo}
 use denote.Signature.Array.{arrayOf}
 use Rattle.mcode.specs.Image.{parse}
 use Rattle.mcode.specs.Machine.{State, Outcome, isMachine, state}
-use Rattle.mcode.specs.Step.{instructionOf}
+use Rattle.mcode.specs.Step.{quietOf}
 use Rattle.mcode.specs.Run.{lentTo, runN}
 use Rattle.mcode.specs.declared.Machine.{Machine}
 use Rattle.actions.specs.Core.{leftBy}
@@ -154,7 +154,7 @@ record Turn (image map inputs : List ℕ) (w n : ℕ) (first : State) : Type 0 w
 module _ {M : Type 1} (𝓤 : URA M) (H : Heap 𝓤) (A : Atoms 𝓤) (W : Given 𝓤 H A) (at-mem : Memory → SProp 𝓤) (run : Routine → Fun 𝓤) (κ₁ κ₂ κ₃ κ₄ κ₅ κ₆ : Lft) (q₁ q₂ q₃ q₄ q₅ q₆ : Share) (h : Machine) (x₁ x₂ x₃ x₄ x₅ x₆ : RefT (List ℕ)) (n : ℕ) (n-fits : n < 2 ^ 32)
     (ask : Passed (x₁ .now) (x₃ .now) h (length (x₄ .now)) (length (x₆ .now)) (length (x₅ .now)) (x₂ .now)) where
   abbrev f : State → Outcome
-  f = instructionOf (lentTo (x₁ .now) (x₃ .now) (x₅ .now))
+  f = quietOf (lentTo (x₁ .now) (x₃ .now) (x₅ .now))
 
   abbrev s₀ : State
   s₀ = state h (x₄ .now) (x₆ .now)

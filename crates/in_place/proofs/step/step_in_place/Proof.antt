@@ -46,7 +46,7 @@ use denote.Signature.{plain, shrSliceOf, shrRefTo}
 use denote.Signature.Array.{arrayOf}
 use Rattle.mcode.specs.Image.{parse}
 use Rattle.mcode.specs.Machine.{isMachine, state}
-use Rattle.mcode.specs.Step.{instructionOf}
+use Rattle.mcode.specs.Step.{quietOf}
 use Rattle.mcode.specs.Run.{lentTo}
 use Rattle.mcode.specs.declared.Machine.{Machine}
 use Rattle.actions.specs.Core.{leftBy}
@@ -153,7 +153,7 @@ module _ {M : Type 1} (𝓤 : URA M) (H : Heap 𝓤) (A : Atoms 𝓤) (W : Given
   Asked₃ = (length (x₅ .now) ≡ 16) × (length (x₆ .now) ≡ 16)
 
   abbrev Done : Next → List ℕ → List ℕ → Type 0
-  Done r zs os = answered r zs os ≡ leftBy (state h (x₄ .now) (x₆ .now)) (instructionOf (lentTo (x₁ .now) (x₃ .now) (x₅ .now)) (state h (x₄ .now) (x₆ .now)))
+  Done r zs os = answered r zs os ≡ leftBy (state h (x₄ .now) (x₆ .now)) (quietOf (lentTo (x₁ .now) (x₃ .now) (x₅ .now)) (state h (x₄ .now) (x₆ .now)))
 
   goes : Is Rm h (mach h ∷ []) → Asked₁ → Asked₂ → Asked₃ → ent 𝓤 (⋆ 𝓤 H A (Tok ∷ ‵ Sl ∷ [])) (Step 𝓤 H A at-mem run .pre to-step)
   goes is ask₁ ask₂ ask₃ = qed W (Tok ∷ ‵ Sl ∷ []) ∵ suffices ! _ (says-three 𝓤 Asked₁ Asked₂ Asked₃ (onEntry 𝓤 H A step.signature κs′ (q₁, (q₂, (q₃, (q₄, (q₅, (q₆, tt)))))) (h, xs) (mach h ∷ [], vs₆)) ask₁ ask₂ ask₃) $

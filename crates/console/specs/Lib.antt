@@ -3,3 +3,4 @@ pub mod Choices
 pub mod Counted
 pub mod Faults
 pub mod Asks
+pub mod Caught

@@ -1,5 +1,6 @@
 // Where the code of an image is at fault, in words.
 use crate::print::number;
+use crate::words::put_letters;
 use explain::Why;
 use listing::causes::words_length;
 use listing::causes::words_of;
@@ -15,13 +16,6 @@ use mcode::Cause;
 use mcode::opcode::left_of;
 use mcode::opcode::length_of;
 use mcode::opcode::taken_of;
-
-// The first n letters.
-fn put_letters(fd: i32, letters: &[u8], n: usize) {
-    if n <= letters.len() {
-        io::write_all(fd, &letters[0..n]);
-    }
-}
 
 // An opcode in octal, and its name where it is listed.
 fn put_opcode(fd: i32, op: u8) {

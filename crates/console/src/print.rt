@@ -1,4 +1,5 @@
 // The lines that the programs print.
+use crate::caught::Caught;
 use crate::code::put_why;
 use crate::words;
 use explain::Why;
@@ -57,6 +58,18 @@ pub fn reading(stop: Stop, count: u32, machine: Machine, words: [u16; 16]) {
 // The third line of a reading: what is left of the requests.
 pub fn requests_left(requests: u16) {
     number(STDOUT_FILENO, b"requests ", requests as u64);
+    line_end();
+}
+
+// The last line of a reading, where the store tells of a caught trap.
+pub fn put_caught(caught: Caught) {
+    if caught.number == 0 {
+        return;
+    }
+    number(STDOUT_FILENO, b"caught ", caught.number as u64);
+    number(STDOUT_FILENO, b" process ", caught.process as u64);
+    number(STDOUT_FILENO, b" module ", caught.unit as u64);
+    number(STDOUT_FILENO, b" pc ", caught.pc as u64);
     line_end();
 }
 

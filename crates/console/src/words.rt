@@ -1,4 +1,5 @@
-// The words of the paper for each refusal and each stop. Each function answers as `io::write_all` does.
+// The words of the paper for each refusal and each stop. What writes them answers as `io::write_all` does.
+ghost use Prim.Native.Nat.{_≤_};
 
 // A refusal, 1 to 13.
 pub fn refusal(fd: i32, number: u16) -> bool {
@@ -20,20 +21,54 @@ pub fn refusal(fd: i32, number: u16) -> bool {
     }
 }
 
+// The words of a stop, 30 to 40, filled up with blanks.
+pub fn stop_letters(number: u16) -> [u8; 12] {
+    match number {
+        30 => *b"spent       ",
+        31 => *b"ended       ",
+        32 => *b"address     ",
+        33 => *b"stack limit ",
+        34 => *b"return mark ",
+        35 => *b"process     ",
+        36 => *b"divisor     ",
+        37 => *b"result range",
+        38 => *b"check       ",
+        39 => *b"channel     ",
+        40 => *b"program     ",
+        _ => *b"no such stop",
+    }
+}
+
+// How many letters there are before the blanks.
+pub fn stop_length(number: u16) -> usize
+    ensures { λ r. ⌜ r ≤ 12 ⌝ }
+{
+    match number {
+        30 => 5,
+        31 => 5,
+        32 => 7,
+        33 => 11,
+        34 => 11,
+        35 => 7,
+        36 => 7,
+        37 => 12,
+        38 => 5,
+        39 => 7,
+        40 => 7,
+        _ => 12,
+    }
+}
+
+// The first n letters.
+pub fn put_letters(fd: i32, letters: &[u8], n: usize) -> bool {
+    if n <= letters.len() {
+        return io::write_all(fd, &letters[0..n]);
+    }
+    false
+}
+
 // A stop, 30 to 40.
 pub fn stop(fd: i32, number: u16) -> bool {
-    match number {
-        30 => io::write_all(fd, b"spent"),
-        31 => io::write_all(fd, b"ended"),
-        32 => io::write_all(fd, b"address"),
-        33 => io::write_all(fd, b"stack limit"),
-        34 => io::write_all(fd, b"return mark"),
-        35 => io::write_all(fd, b"process"),
-        36 => io::write_all(fd, b"divisor"),
-        37 => io::write_all(fd, b"result range"),
-        38 => io::write_all(fd, b"check"),
-        39 => io::write_all(fd, b"channel"),
-        40 => io::write_all(fd, b"program"),
-        _ => io::write_all(fd, b"no such stop"),
-    }
+    let letters = stop_letters(number);
+    put_letters(fd, &letters, stop_length(number))
 }

@@ -53,6 +53,12 @@ fn put_lines() {
         b"what is left of them. A refused image prints one line, refused and its number; standard error\n",
     );
     put(b"says it in words, with the place where it is known.\n\n");
+    put(
+        b"The last line, caught N process P module M pc X, tells of the last caught trap, where the store\n",
+    );
+    put(
+        b"does: word 15 is P, and the record at P has its number (word P + 6), module and position.\n\n",
+    );
     put(b"    reading examples/whole-reading.img\n");
     put(b"    stop 31 code 0 steps 3 module 0 pc 3 depth 0\n");
     put(b"    0 0 7 0 0 0 0 0 0 0 0 0 0 0 0 0\n\n");

@@ -4,6 +4,7 @@
 mod help;
 
 use console::arguments;
+use console::caught::caught_in;
 use console::fault;
 use console::files;
 use console::files::Filled;
@@ -96,18 +97,11 @@ fn put_left(options: Options, left: u16) {
     }
 }
 
-// The reading of an image.
-fn put_reading(
-    name: &[u8],
-    image: &mut [u8],
-    map: &mut [u32],
-    store: &mut [u16],
-    options: Options,
-) {
+// The reading of an image, over the whole store.
+fn put_answer(name: &[u8], image: &mut [u8], map: &mut [u32], store: &mut [u16], options: Options) {
     let mut outputs = [0u16; 16];
     let inputs = options.inputs;
-    let w = store_words(options.store, store.len());
-    let all = read(image, map, &mut store[..w], &mut outputs, &inputs, options);
+    let all = read(image, map, store, &mut outputs, &inputs, options);
     let ran = all.ran;
     let ending = ran.ending;
     match ending {
@@ -120,8 +114,21 @@ fn put_reading(
             let machine = ran.machine;
             print::reading(stop, ran.count, machine, outputs);
             put_left(options, all.left);
+            print::put_caught(caught_in(image, store));
         }
     }
+}
+
+// The reading of an image, over the store's chosen words.
+fn put_reading(
+    name: &[u8],
+    image: &mut [u8],
+    map: &mut [u32],
+    store: &mut [u16],
+    options: Options,
+) {
+    let w = store_words(options.store, store.len());
+    put_answer(name, image, map, &mut store[..w], options);
 }
 
 // The reading of a file. It has a heading where there are several.

@@ -42,7 +42,10 @@ pub fn put_help() {
     text(b"the top word last. Below it stand the registers and the words of the store that\n");
     text(b"it changed. An output that changed has a line at the margin, also beyond the\n");
     text(b"limit: output 2: 0 -> 7 (step 3)\n\n");
+    text(b"A trap that is caught is a step: below its line stand the trap, as the store has\n");
+    text(b"it in word P + 6, and the processes that it left and entered.\n\n");
     text(b"The instruction at which the run stops is no step, and has - for its number. At\n");
-    text(b"the end stand the stop in words and the two lines of the reading; with requests\n");
-    text(b"a third line shows what is left of them.\n");
+    text(b"the end stand the stop in words and the lines of the reading: its two; with\n");
+    text(b"requests what is left of them; and the last caught trap, where the store tells\n");
+    text(b"of one.\n");
 }

@@ -3,11 +3,13 @@
 // An option's value may also stand in its own argument, as --steps=N.
 mod arguments;
 mod help;
+mod process;
 mod show;
 mod steps;
 
 use crate::arguments::gathered;
 use crate::steps::traced;
+use console::caught::caught_in;
 use console::fault;
 use console::files::Filled;
 use console::files::contents;
@@ -17,6 +19,7 @@ use console::options::Argument;
 use console::options::Options;
 use console::print::Place;
 use console::print::line_end;
+use console::print::put_caught;
 use console::print::reading;
 use console::print::refusal;
 use console::print::refused_as;
@@ -86,6 +89,15 @@ fn put_end(ran: Ran, outputs: [u16; 16]) {
 fn put_left(options: Options, left: u16) {
     if options.requests != 0 {
         requests_left(left);
+    }
+}
+
+// Where the store tells of a caught trap, the last line does.
+fn put_last(ran: Ran, image: &[u8], store: &[u16]) {
+    let ending = ran.ending;
+    match ending {
+        Ending::Refused(_) => {}
+        Ending::Stopped(_) => put_caught(caught_in(image, store)),
     }
 }
 
@@ -197,6 +209,7 @@ fn put_steps(
         let end = all.ran;
         put_end(end, outputs);
         put_left(options, all.left);
+        put_last(end, image, store);
     }
 }
 

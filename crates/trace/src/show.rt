@@ -1,4 +1,7 @@
 // What a step shows: its number, module, position, instruction or line, the operand stack before and after it, and what it changed.
+use crate::process::opcode_at;
+use crate::process::put_changed;
+use crate::process::turn_of;
 use control::lines::line_of;
 use engine::run::Ran;
 use listing::block::Block;
@@ -155,17 +158,6 @@ fn put_place(
     put_line(out, used, line);
 }
 
-// The process that a line left, and the one that it entered.
-fn put_processes(out: &mut Block, used: &mut usize, left: u16, entered: u16) {
-    named(out, used, b"        process ", left as u64);
-    if left == entered {
-        text(out, used, b" stays\n");
-        return;
-    }
-    named(out, used, b" left, ", entered as u64);
-    text(out, used, b" entered\n");
-}
-
 // The instruction at which the run stops, or the line, is no step: it changes nothing.
 fn put_stopping(
     out: &mut Block,
@@ -182,11 +174,12 @@ fn put_stopping(
     text(out, used, b"\n");
 }
 
+// A step: its line, and below it what it changed.
 fn put_done(
     out: &mut Block,
     used: &mut usize,
-    before: Machine,
-    after: Machine,
+    ran: Ran,
+    next: Ran,
     program: Program,
     image: &[u8],
     step: u64,
@@ -194,18 +187,19 @@ fn put_done(
     words: &mut [u16],
     store: &[u16],
 ) {
+    let before = ran.machine;
+    let after = next.machine;
     let registers = before.registers;
-    let next = after.registers;
+    let reached = after.registers;
     right(out, used, step, 6);
     put_place(out, used, image, program, registers, line);
     put_stack(out, used, before);
     text(out, used, b" -> ");
     put_stack(out, used, after);
     text(out, used, b"\n");
-    if line != 0 {
-        put_processes(out, used, registers.p.0, next.p.0);
-    }
-    put_registers(out, used, registers, next);
+    let turn = turn_of(ran, next, line, opcode_at(image, program, registers));
+    put_changed(out, used, turn, words, store);
+    put_registers(out, used, registers, reached);
     put_store(out, used, words, store);
 }
 
@@ -232,18 +226,17 @@ fn put_listed(
     if (limit as u64) < step {
         return;
     }
-    let before = ran.machine;
     let line = next_line(ran, words);
     if next.count == ran.count {
+        let before = ran.machine;
         put_stopping(out, used, image, program, before, line);
         return;
     }
-    let after = next.machine;
     put_done(
         out,
         used,
-        before,
-        after,
+        ran,
+        next,
         program,
         image,
         step,

@@ -42,8 +42,11 @@ put-end-requires c κs = search needs
 put-left-requires : tie.Need-put-left-requires
 put-left-requires c κs = search needs
 
+put-last-requires : tie.Need-put-last-requires
+put-last-requires c κs = search needs
+
 same-length : tie.Need-same-length
-same-length c = c .before .before .before .before .before .before .before .before .before .before .before .before .before .requested .kept .1 .1 .1 .0 ∙ c .before .before .before .before .before .before .before .before .before .before .before .before .before .before .before .before .before .before .before .before .before .before .before .before .before .before .traced .kept .1 .1 .1 .0
+same-length c = c .before .before .before .before .before .before .before .before .before .before .before .before .before .before .before .requested .kept .1 .1 .1 .0 ∙ c .before .before .before .before .before .before .before .before .before .before .before .before .before .before .before .before .before .before .before .before .before .before .before .before .before .before .before .before .traced .kept .1 .1 .1 .0
 
 same-length-2 : tie.Need-same-length-2
 same-length-2 c = search needs
@@ -77,6 +80,7 @@ put-steps-spec =
     flush-requires
     put-end-requires
     put-left-requires
+    put-last-requires
     same-length
     same-length-2
     returns

@@ -39,7 +39,7 @@
  *   words 8-23  the expression stack, the bottom first; zeros above the depth
  *
  * The answer of a run is CEMBUXOLA_ANSWER_NUMBERS numbers:
- *   number 0    count, the steps that were done; the stopping instruction is not counted
+ *   number 0    count, the steps that were done, caught traps among them; the stopping instruction is not counted
  *   number 1    code, the program's own code (0 to 65,535) at stop 40, else 0
  *   number 2    requests, what is left of the word of requests (0 to 65,535)
  * A refused run answers count 0, code 0 and the requests as given.
@@ -51,6 +51,14 @@
  * 2i + 1 is written. Either counts as a step and clears the bit. Where there is no process to transfer to, the run stops with 35 and the bit
  * is kept: start leaves zeros in these words, so the program must have written its word 2i before line i is requested. Bits 0 to 7 are
  * ignored and returned as given. Pass 0 where no line is used.
+ *
+ * Store word 14 names the trap process. Where it is not 0 and not P, a trap 32 to 40 is caught: it writes its number to word P + 6, then
+ * transfers as a line does, with words 14 and 15, and the run goes on. The process that trapped is in word 15, its position that of the
+ * trapping instruction, its whole expression stack saved; M is that of the trap process. This counts as a step. A line's failed transfer is
+ * caught too: the position is the instruction about to run, and the bit is kept. Where the transfer to the trap process would itself fail,
+ * the run stops with the first trap and nothing is changed. The answer does not tell of a caught trap: its number is in word P + 6 of the
+ * process in word 15, as long as nothing is written over it, and the code of 40 is lost. start leaves 0 in word 14: every trap stops the
+ * run until the program has written it.
  */
 #ifndef CEMBUXOLA_H
 #define CEMBUXOLA_H
@@ -93,7 +101,7 @@ enum {
 };
 
 /* Stops. A trap and an end leave everything as it was before their instruction, at which the machine stands; so does a line whose
- * transfer fails. */
+ * transfer fails. A trap that is caught is no stop. */
 enum {
     CEMBUXOLA_SPENT = 30,        /* all n steps are done */
     CEMBUXOLA_ENDED = 31,        /* the program has ended */
@@ -125,7 +133,8 @@ uint16_t cembuxola_start(const uint8_t *image, size_t image_length, uint16_t *st
                          size_t machine_length);
 
 /* Makes at most n steps. Answers a stop 30 to 40, or a refusal 1 to 7, 9 to 12 or 20. It believes nothing that it is handed: the image,
- * the map and the machine are tested in every call.
+ * the map and the machine are tested in every call. A trap stops it only where store word 14 is 0 or P or names no process to transfer to,
+ * as said above; a caught one is a step of the count, and its number is in word P + 6 of the process in word 15.
  *   machine  CEMBUXOLA_MACHINE_WORDS words, from start or from an earlier run. A stop: the machine where it stopped. Every refusal
  *            leaves it as it was. A module above 255 is no loaded module, as is any that the image does not have (11).
  *   image    read

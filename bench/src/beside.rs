@@ -2,7 +2,7 @@
 //! some percent, where the store lies to the stack of run, modulo 4,096 bytes, moves calls at a few places by a third, and the machine has
 //! slow phases. The mean of the layouts, each the least of many runs spread over the whole time, is moved little by any of them.
 
-use crate::images::{self, Long, Loop, LINES_A_RUN, LINE_STEPS, LONG};
+use crate::images::{self, Long, Loop, LINES_A_RUN, LINE_STEPS, LONG, TRAP_STEPS};
 use crate::mixed;
 use crate::sides::Compared;
 use crate::speed::{line, INPUTS, WORDS};
@@ -168,22 +168,28 @@ impl<'a> Begun<'a> {
 enum Kind {
     Steps,
     Lines,
+    Traps,
     Load,
     Refused,
     Tests,
 }
 
 impl Kind {
-    /// Whether the program can be timed on this build: what is refused can on any.
+    /// Whether the program can be timed on this build: what is refused can on any, traps that are caught not on one from before A.8, which
+    /// stops at the first.
     fn begin(self, begun: &mut Begun, program: &Loop) -> bool {
-        matches!(self, Kind::Refused) || begun.begin(program)
+        match self {
+            Kind::Refused => true,
+            Kind::Traps => begun.begin(program) && begun.run(STEPS, program.requests.given) == 30,
+            _ => begun.begin(program),
+        }
     }
 
     /// One timed call, in seconds, or an answer that it should not give. Where code is not whole, a library from before A.3 answers 8.
     fn time(self, begun: &mut Begun, requests: u16) -> Compared<f64> {
         let begin = Instant::now();
         let (number, wanted): (u16, &[u16]) = match self {
-            Kind::Steps => (begun.run(STEPS, requests), &[30]),
+            Kind::Steps | Kind::Traps => (begun.run(STEPS, requests), &[30]),
             Kind::Lines => (begun.runs(LINE_RUNS, LINE_STEPS, requests), &[30]),
             Kind::Load => (begun.load(), &[0]),
             Kind::Refused => (begun.load(), &[8, 13]),
@@ -202,6 +208,7 @@ impl Kind {
         match self {
             Kind::Steps => ("ns/step", 1e9 / f64::from(STEPS)),
             Kind::Lines => ("ns/line", 1e9 / f64::from(LINE_RUNS * LINES_A_RUN)),
+            Kind::Traps => ("ns/trap", 1e9 / f64::from(STEPS / TRAP_STEPS)),
             Kind::Load | Kind::Refused | Kind::Tests => ("us", 1e6),
         }
     }
@@ -266,7 +273,8 @@ fn long_works(title: &str, kind: Kind, images: Vec<Long>) -> impl Iterator<Item 
     })
 }
 
-/// All works: the short loops, the mixed programs of several seeds, runs with requests, load, also of what it refuses, and the test of a map.
+/// All works: the short loops, the mixed programs of several seeds, runs with requests, runs that catch traps, load, also of what it refuses,
+/// and the test of a map.
 fn works() -> Vec<Work> {
     let mut all = Vec::new();
     for program in images::loops() {
@@ -282,6 +290,9 @@ fn works() -> Vec<Work> {
     }
     for program in images::line_runs() {
         all.push(Work::new(program.name, Kind::Lines, program));
+    }
+    for program in images::trap_runs() {
+        all.push(Work::new(program.name, Kind::Traps, program));
     }
     for (title, kind, images) in [
         ("load", Kind::Load, images::long_images()),

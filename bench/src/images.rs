@@ -327,6 +327,44 @@ pub fn line_runs() -> [Loop; 3] {
     ]
 }
 
+/// The words of A.8: the trap process, and the process that trapped.
+const TRAP_TARGET: u8 = 14;
+const TRAP_OLD: u8 = 15;
+/// The steps of a trap that is caught, with the way back.
+pub const TRAP_STEPS: u32 = 5;
+
+/// A process with so many words on its stack raises S until that is trap 33, and a trap process transfers back at once: to the same
+/// instruction, which traps again.
+fn caught_traps(name: &'static str, words: usize) -> Loop {
+    const RECORD: u16 = 1000;
+    let mut code = Code(vec![1; words]);
+    code.put(&[0o353, 255]).back(0o035, words);
+    let top = code.here();
+    code.put(&[0o020, TRAP_TARGET, 0o020, TRAP_OLD, 0o256, 1]);
+    let behind = code.here() as u16;
+    code.back(0o035, top);
+    // its stack is the count of its saved words, 0
+    let record = [BASE, 0, behind, 0, OTHER_STACK + 1, 3000];
+    let mut patches = vec![(TRAP_TARGET.into(), RECORD)];
+    patches.extend((RECORD..).zip(record));
+    let module = Source {
+        procedures: vec![procedure(0, 0, 0), procedure(top, 0, 0)],
+        ..with_data(code.0)
+    };
+    Loop {
+        patches,
+        ..plain(name, &[module])
+    }
+}
+
+/// Traps that are caught, one after another.
+pub fn trap_runs() -> [Loop; 2] {
+    [
+        caught_traps("traps caught, 0 words", 0),
+        caught_traps("traps caught, 16 words", 16),
+    ]
+}
+
 fn input_and_output() -> Loop {
     let body = [
         0o025, 3, 5, 0o240, // word G+3 becomes input 5

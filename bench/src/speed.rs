@@ -1,6 +1,6 @@
 //! Times both sides in turn, in one process, after their results were compared.
 
-use crate::images::{self, Long, Loop, Requests, LINES_A_RUN, LINE_STEPS, LONG};
+use crate::images::{self, Long, Loop, Requests, LINES_A_RUN, LINE_STEPS, LONG, TRAP_STEPS};
 use crate::mixed;
 use crate::sides::{Compared, Sides};
 use crate::words::words;
@@ -79,21 +79,31 @@ fn time_runs(sides: &mut Sides, n: u32, requests: Requests, runs: u32) -> Compar
     ))
 }
 
-/// Times in nanoseconds a step.
-fn time_loop(one: &Loop) -> Compared<[f64; 2]> {
-    let times = time_runs(&mut begun_loop(one)?, STEPS, one.requests, 1)?;
-    let each = times.map(|time| time * 1e9 / f64::from(STEPS));
-    line(one.name, "ns/step", each, each[0] / each[1]);
+/// Times so many runs of n steps of a program, in nanoseconds for each of `count` in them, and prints them.
+fn time_each_of(
+    one: &Loop,
+    (n, runs): (u32, u32),
+    (count, unit): (u32, &str),
+) -> Compared<[f64; 2]> {
+    let times = time_runs(&mut begun_loop(one)?, n, one.requests, runs)?;
+    let each = times.map(|time| time * 1e9 / f64::from(count));
+    line(one.name, unit, each, each[0] / each[1]);
     Ok(each)
 }
 
-/// Times in nanoseconds a line that is taken, with its way back.
+fn time_loop(one: &Loop) -> Compared<[f64; 2]> {
+    time_each_of(one, (STEPS, 1), (STEPS, "ns/step"))
+}
+
+/// Each line that is taken, with its way back.
 fn time_lines(one: &Loop) -> Compared<[f64; 2]> {
-    let times = time_runs(&mut begun_loop(one)?, LINE_STEPS, one.requests, LINE_RUNS)?;
-    let lines = f64::from(LINE_RUNS * LINES_A_RUN);
-    let each = times.map(|time| time * 1e9 / lines);
-    line(one.name, "ns/line", each, each[0] / each[1]);
-    Ok(each)
+    let lines = LINE_RUNS * LINES_A_RUN;
+    time_each_of(one, (LINE_STEPS, LINE_RUNS), (lines, "ns/line"))
+}
+
+/// Each trap that is caught, with its way back. The first one comes in the compared run.
+fn time_traps(one: &Loop) -> Compared<[f64; 2]> {
+    time_each_of(one, (STEPS, 1), (STEPS / TRAP_STEPS, "ns/trap"))
 }
 
 /// A line for each program, and their geometric mean.
@@ -163,6 +173,15 @@ fn time_requests() -> Compared<()> {
     Ok(())
 }
 
+/// A line for each program whose traps are caught.
+fn time_caught() -> Compared<()> {
+    println!("runs that catch traps: a trap, 4 steps back to the instruction that traps again");
+    for one in &images::trap_runs() {
+        time_traps(one).map_err(of(one.name))?;
+    }
+    Ok(())
+}
+
 /// Prints a line for each image; the first difference between the sides is an error.
 pub fn speed() -> Compared<()> {
     let long = images::long_images();
@@ -175,6 +194,7 @@ pub fn speed() -> Compared<()> {
     println!("steps of mixed programs");
     time_loops(&mixed::programs(mixed::SEED))?;
     time_requests()?;
+    time_caught()?;
     println!("load");
     time_each(&long, time_load)?;
     println!("load, refused with 13 where the code ends");

@@ -1,7 +1,8 @@
 /* reading [--requests WORD] [--after N] FILE: the desk's reading of an image, in C: load, start, and runs of 1,000 steps in all with W = 4,096,
  * inputs 0 and outputs first 0. After N steps (0) without requests it goes on with the word of requests (0), unless the program has stopped.
  * Prints the stop and the outputs, or `refused` and the number; where code is not whole, standard error says at which place. With a word
- * other than 0 a third line has what is left of it.
+ * other than 0 a third line has what is left of it. Where the store tells of a caught trap, the last line has its number, process, module and
+ * position.
  * Its map is that of the largest image, so it reads every one that load accepts; the desk program's has 16,384 entries, and a longer image
  * that passes the earlier checks is refused with 7 there. examples/c/build builds it. */
 #include <stdio.h>
@@ -15,6 +16,12 @@
 #define MOST_BYTES 65536
 /* One for each byte of the largest image. */
 #define MOST_ENTRIES 65535
+/* Places of the store: the process that a caught trap left, and the copies of the modules' bases. */
+#define TRAP_OLD 15
+#define BASES 32
+/* The words of a process's record, and the one of them where a trap writes its number. */
+#define RECORD_WORDS 8
+#define TRAP_NUMBER 6
 
 static uint8_t image[MOST_BYTES];
 static uint32_t map[MOST_ENTRIES];
@@ -60,6 +67,22 @@ static void print_reading(unsigned number)
     printf("\n");
 }
 
+/* What the store tells of a caught trap: the process in word 15 has a trap's number in its word 6, and its G is the base of a module. Run does
+ * not tell it. It is a reading of the store: what the program wrote over these words is not told otherwise. */
+static void print_caught(void)
+{
+    unsigned process = store[TRAP_OLD], modules = image[0], module = 0;
+    if (process == 0 || process + RECORD_WORDS > WORDS)
+        return;
+    const uint16_t *record = store + process;
+    if (record[TRAP_NUMBER] < CEMBUXOLA_ADDRESS || record[TRAP_NUMBER] > CEMBUXOLA_PROGRAM)
+        return;
+    while (module < modules && store[BASES + module] != record[0])
+        module++;
+    if (module < modules)
+        printf("caught %u process %u module %u pc %u\n", (unsigned)record[TRAP_NUMBER], process, module, (unsigned)record[2]);
+}
+
 static int read_and_run(const char *name, size_t length, uint32_t word, uint32_t after)
 {
     unsigned number = cembuxola_load(image, length, map, MOST_ENTRIES, place, CEMBUXOLA_PLACE_WORDS);
@@ -79,6 +102,7 @@ static int read_and_run(const char *name, size_t length, uint32_t word, uint32_t
     print_reading(number);
     if (word != 0)
         printf("requests %u\n", (unsigned)requests);
+    print_caught();
     return 0;
 }
 

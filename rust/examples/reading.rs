@@ -1,12 +1,19 @@
 //! reading [--requests WORD] [--after N] FILE: the desk's reading of an image, by the wrapper: W = 4,096, inputs 0, outputs first 0, n = 1,000.
 //! After N steps (0) without requests it goes on with the word of requests (0), unless the program has stopped; with a word other than 0 a third
-//! line has what is left of it. Where code is not whole, standard error says at which place. It reads every image that load accepts, its map
-//! being as long as the image; the desk program's has 16,384 entries.
+//! line has what is left of it. Where the store tells of a caught trap, the last line has its number, process, module and position. Where code
+//! is not whole, standard error says at which place. It reads every image that load accepts, its map being as long as the image; the desk
+//! program's has 16,384 entries.
 
 use cembuxola::{Cabinet, Ran, Refusal, Stop, CHANNELS};
 use std::process::ExitCode;
 
 const STEPS: u32 = 1000;
+/// Places of the store: the process that a caught trap left, and the copies of the modules' bases.
+const TRAP_OLD: usize = 15;
+const BASES: usize = 32;
+/// The words of a process's record, and the one of them where a trap writes its number.
+const RECORD_WORDS: usize = 8;
+const TRAP_NUMBER: usize = 6;
 
 struct Asked {
     requests: u16,
@@ -28,7 +35,7 @@ fn main() -> ExitCode {
         }
     };
     match Cabinet::new(&image, 4096) {
-        Ok(cabinet) => print_reading(cabinet, &asked),
+        Ok(cabinet) => print_reading(cabinet, image[0].into(), &asked),
         Err(refusal) => print_refusal(file, refusal),
     }
     ExitCode::SUCCESS
@@ -82,7 +89,26 @@ fn run(cabinet: &mut Cabinet, asked: &Asked) -> Ran {
     }
 }
 
-fn print_reading(mut cabinet: Cabinet, asked: &Asked) {
+/// What the store tells of a caught trap: the process in word 15 has a trap's number in its word 6, and its G is the base of a module. Run does
+/// not tell it. It is a reading of the store: what the program wrote over these words is not told otherwise.
+fn caught(store: &[u16], modules: usize) -> Option<String> {
+    let traps = Stop::Address.number()..=Stop::Program(0).number();
+    let process = store[TRAP_OLD];
+    let first = usize::from(process);
+    let record = store.get(first..first + RECORD_WORDS)?;
+    let (number, pc) = (record[TRAP_NUMBER], record[2]);
+    if process == 0 || !traps.contains(&number) {
+        return None;
+    }
+    let mut bases = store[BASES..BASES + modules].iter();
+    let module = bases.position(|&base| base == record[0])?;
+    Some(format!(
+        "caught {number} process {process} module {module} pc {pc}"
+    ))
+}
+
+/// With the image's module count.
+fn print_reading(mut cabinet: Cabinet, modules: usize, asked: &Asked) {
     let ran = run(&mut cabinet, asked);
     let machine = cabinet.machine();
     let (stop, code, steps) = (ran.stop.number(), ran.stop.code(), ran.count);
@@ -92,5 +118,8 @@ fn print_reading(mut cabinet: Cabinet, asked: &Asked) {
     println!("{}", outputs.join(" "));
     if asked.requests != 0 {
         println!("requests {}", ran.requests);
+    }
+    if let Some(line) = caught(cabinet.store(), modules) {
+        println!("{line}");
     }
 }

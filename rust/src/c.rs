@@ -120,7 +120,8 @@ impl Library {
         }
     }
 
-    /// Run: a stop 30 to 40, or a refusal; 20 where the machine has not [`MACHINE_WORDS`] words or the answer not [`ANSWER_NUMBERS`].
+    /// Run: a stop 30 to 40, or a refusal; 20 where the machine has not [`MACHINE_WORDS`] words or the answer not [`ANSWER_NUMBERS`]. A trap that
+    /// is caught is a step, and no stop.
     #[allow(clippy::too_many_arguments)]
     pub fn run(
         &self,

@@ -54,7 +54,8 @@ impl Machine {
     }
 }
 
-/// How a run stopped, and how many steps it made. The stopping instruction is not counted; a line that was taken is.
+/// How a run stopped, and how many steps it made. The stopping instruction is not counted; a line that was taken and a trap that was caught
+/// are.
 #[derive(Clone, Copy, Debug, PartialEq, Eq)]
 pub struct Ran {
     pub stop: Stop,
@@ -87,6 +88,12 @@ pub const fn line(i: u16) -> u16 {
 
 /// Makes at most n steps, with these requests: before an instruction the highest line is taken that is requested, not in M and not in store
 /// word 3. A refused run leaves everything as it was, the requests too.
+///
+/// Where store word 14 is not 0 and not P, a trap is caught: it writes its number to word P + 6, then transfers as a line does to the process
+/// in word 14, and the run goes on. The process that trapped is in word 15, at the trapping instruction. This counts as a step. A line's failed
+/// transfer is caught too, and its bit is kept. Where the transfer would itself fail, the run stops with the first trap and nothing is changed.
+/// [`Ran`] does not tell of a caught trap: its number is in word P + 6 of the process in word 15, as long as nothing is written over it, and the
+/// code of [`Stop::Program`] is lost.
 #[allow(clippy::too_many_arguments)]
 pub fn run(
     machine: &mut Machine,
@@ -147,8 +154,8 @@ impl Cabinet {
         })
     }
 
-    /// Makes at most n steps, with these requests. After an accepted start no run with 16 inputs is refused: that is the engine's third
-    /// demand.
+    /// Makes at most n steps, with these requests; traps are caught as [`run`] says. After an accepted start no run with 16 inputs is refused:
+    /// that is the engine's third demand.
     pub fn run(&mut self, inputs: &[u16; CHANNELS], n: u32, requests: u16) -> Ran {
         run(
             &mut self.machine,

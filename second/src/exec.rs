@@ -105,12 +105,9 @@ fn until_stop<O: Observer>(
     observer: &mut O,
 ) -> RunAnswer {
     let &mut Lent {
-        image,
-        map,
-        ref mut store,
-        ref mut outputs,
-        inputs,
+        image, map, inputs, ..
     } = lent;
+    let (store, outputs) = (&mut *lent.store, &mut *lent.outputs);
     let Machine {
         mut module,
         mut p,

@@ -166,9 +166,20 @@ module _ (table marks store : List ℕ) (p number : ℕ) where
   unfolding catcherIn
   catches n = both (leb 32 number) _ (targetIn table marks store (getD store 14 0)) n
 
-  pub catcher-target : (catcherIn table marks store p number ≡ 32 → ⊥) → catcherIn table marks store p number ≡ targetIn table marks store (getD store 14 0)
+  catcher-target : (catcherIn table marks store p number ≡ 32 → ⊥) → catcherIn table marks store p number ≡ targetIn table marks store (getD store 14 0)
   unfolding catcherIn
   catcher-target n = rw (catches n .0, catches n .1) refl
+
+  -- of the process that catches it, which is in module k
+  module _ {k : ℕ} (e : k ≡ catcherIn table marks store p number) (n : k ≡ 32 → ⊥) where
+    target-is : targetIn table marks store (getD store 14 0) ≡ 32 → ⊥
+    target-is = not-so (catcher-target (not-so e n)) (not-so e n)
+
+    pub caught-few : Mapped table marks → k < 32
+    caught-few m = rw (e, catcher-target (not-so e n)) (target-few table marks store (getD store 14 0) m target-is)
+
+    pub caught-fits : {q : ℕ} → q ≡ getD store 14 0 → sized (length store) q (processAt store q) ≡ true
+    caught-fits w = rw w (target-fits table marks store (getD store 14 0) target-is)
 
 module _ {bytes table marks words : List ℕ} {lent : Lent} (h : Lends bytes table marks words lent) (r : Core) (stack store out : List ℕ) (k : Stop) where
   abbrev y : State

@@ -326,34 +326,9 @@ fn resume_noted(
     next
 }
 
-// To the process whose record is at q, in module k, as `change` does, with the whole stack saved and the number of the trap in word P + 6:
-// it is written when the other process is read, and before this one is saved.
-fn change_noted(
-    r: Core,
-    table: &[u16; 193],
-    stack: &mut [u16; 16],
-    store: &mut [u16],
-    k: usize,
-    q: u16,
-    number: u16,
-) -> Stepped
-    requires { ⌜ (k < 32) × (sized (length (now store)) q (processAt (now store) q) ≡ true) ⌝ }
-    requires { ⌜ Roomy (length (now store)) r ⌝ }
-    requires { ⌜ (r .depth ≤ 16) × (32 ≤ length (now store)) × (r .start ≤ r .pc) × (r .pc - r .start < 65536) ⌝ }
-    ensures { λ x. ⌜ (x ≡ stepped 0 0 (resumed (now (table .entry)) k 1 q (processAt (now (store .entry)) q) r)) × (now (stack .exit) ≡ restored (now (store .entry)) (processAt (now (store .entry)) q .k) (processAt (now (store .entry)) q .s - 1 - processAt (now (store .entry)) q .k) (replicate 16 0)) × (now (store .exit) ≡ savedStore (r .g .0) (position (r .pc - r .start)) 15 (held r (now (stack .entry)) (set (now (store .entry)) (r .p .0 + 6) number) []) (r .depth)) ⌝ }
-{
-    let s = word_at(store, q as usize + 4) as usize;
-    let n = word_at(store, s - 1) as usize;
-    let words = words_at(store, s - 1 - n, n);
-    let next = resume_noted(r, table, store, k, q, number);
-    let d = r.depth;
-    let to = r.pc;
-    save_process(r, stack, store, d, 15, to);
-    *stack = words;
-    next
-}
-
-// A stop with this number and code: a trap goes to the process in word 14, as line 7 would; where none catches it, it is the stop.
+// A stop with this number and code. A trap goes to the process in word 14 as a line goes to its own: with the mask changed, the whole stack
+// saved and the position as it is; the old process goes to word 15. The number goes to word P + 6 when the other process is read, and before
+// this one is saved. Where none catches it, it is the stop.
 pub fn catch_trap(
     r: Core,
     table: &[u16; 193],
@@ -378,5 +353,13 @@ pub fn catch_trap(
         };
     }
     let q = word_at(store, 14);
-    change_noted(r, table, stack, store, k, q, number as u16)
+    let s = word_at(store, q as usize + 4) as usize;
+    let n = word_at(store, s - 1) as usize;
+    let words = words_at(store, s - 1 - n, n);
+    let next = resume_noted(r, table, store, k, q, number as u16);
+    let d = r.depth;
+    let to = r.pc;
+    save_process(r, stack, store, d, 15, to);
+    *stack = words;
+    next
 }

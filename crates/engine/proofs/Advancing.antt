@@ -26,14 +26,13 @@ use Rattle.actions.specs.Core.{leftBy, held, result}
 use Rattle.actions.specs.Table.{Anchored}
 use Rattle.control.specs.Table.{Mapped}
 use Rattle.control.specs.Frames.{Framed}
-use Rattle.execute.specs.Stepping.{Prepared}
 use Rattle.execute.proofs.Fits.{asks-of}
 use Rattle.execute.proofs.Went.{Stopped, a-stop, went-on, stopped}
 use Rattle.engine.specs.declared.steps.Halted.{Halted}
 use Rattle.engine.specs.declared.steps.Advanced.{Advanced}
 use Rattle.engine.specs.Stops.{stopOf}
 use Rattle.engine.specs.Loops.{Ready, Names, stretched, stretchOf, liveAt, Advances}
-use Rattle.engine.proofs.Turns.{stop-back, names, near, still}
+use Rattle.engine.proofs.Turns.{stop-back, names, near, still, ready-on}
 
 -- ---- a line
 
@@ -85,9 +84,7 @@ module _ (image table map inputs : List ℕ) (r : Core) (stack store outputs : L
 
     pub line-keeps : s .stop ≡ 0 → Ready image table map (length so) (length outputs) (length inputs) (s .core) st
     unfolding Preserves
-    line-keeps z =
-        let k = preserves lent (R .prepared .fits) (live x w) (live (held (s .core) st so outputs) (w - 2 ^ i)) (R .good) (R .outputs) (step-goes-on lent (live x w) _ (went z)) in
-        record { prepared = subst (λ (n : ℕ). Prepared image table map n) (sym (k .1)) (R .prepared); good = k .0; anchored = a; outputs = R .outputs; inputs = R .inputs }
+    line-keeps z = ready-on (s .core) st so outputs R a (preserves lent (R .prepared .fits) (live x w) (live (held (s .core) st so outputs) (w - 2 ^ i)) (R .good) (R .outputs) (step-goes-on lent (live x w) _ (went z)))
 
     module _ (n : s .stop ≡ 0 → ⊥) where
       fails : Stopped x (takenLine lent i x) (result s st so outputs)

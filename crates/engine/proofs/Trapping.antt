@@ -1,5 +1,5 @@
 -- A turn of the loop that catches traps: what was attempted, and its trap that is caught, or the stop. Assumes nothing.
-use mathlib.Core.Path.{_≡_, refl, sym, ap, ap₂, _∙_, subst}
+use mathlib.Core.Path.{_≡_, refl, sym, ap, ap₂, _∙_}
 use mathlib.Core.Logic.{_⊎_, inl, inr, ⊎-elim}
 use mathlib.Core.List.{List}
 use Prim.Native.Nat.{ℕ, suc, _+_, _-_, _≤_, _<_}
@@ -19,13 +19,12 @@ use Rattle.actions.specs.Core.{Left, leftBy, held, result}
 use Rattle.actions.specs.Table.{Anchored}
 use Rattle.control.specs.Table.{Mapped}
 use Rattle.control.specs.Frames.{Framed}
-use Rattle.execute.specs.Stepping.{Prepared}
 use Rattle.execute.proofs.Fits.{asks-of}
 use Rattle.execute.proofs.Went.{Stopped, stop-most, went-on, stopped}
 use Rattle.engine.specs.declared.steps.Advanced.{Advanced}
 use Rattle.engine.specs.Stops.{stopOf}
 use Rattle.engine.specs.Loops.{Ready, liveAt, Advances}
-use Rattle.engine.proofs.Turns.{stop-back, names, near, still}
+use Rattle.engine.proofs.Turns.{stop-back, names, near, still, ready-on}
 
 -- spent is no trap
 not-spent : (lent : Lent) (x : State) → trapped lent Spent x ≡ halt Spent
@@ -104,9 +103,7 @@ module _ (image table map inputs : List ℕ) (left : ℕ) (x : Live) (a : Advanc
 
       pub trap-keeps : Ready image table map (length so′) (length ou) (length inputs) (t .core) st′
       unfolding Preserves
-      trap-keeps =
-          let p = preserves lent (R .prepared .fits) y (live there (a .requests)) (R .good) (R .outputs) (caught .1) in
-          record { prepared = subst (λ (m : ℕ). Prepared image table map m) (sym (p .1)) (R .prepared); good = p .0; anchored = anchored; outputs = R .outputs; inputs = R .inputs }
+      trap-keeps = ready-on (t .core) st′ so′ ou R anchored (preserves lent (R .prepared .fits) y (live there (a .requests)) (R .good) (R .outputs) (caught .1))
 
     module _ (m : t .stop ≡ 0 → ⊥) where
       fails : Stopped here (trapped lent k here) (result t st′ so′ ou)

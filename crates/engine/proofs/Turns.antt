@@ -22,7 +22,7 @@ use Rattle.mcode.proofs.Standing.{good-of}
 use Rattle.actions.specs.declared.Core.{Core}
 use Rattle.actions.specs.declared.Stepped.{Stepped}
 use Rattle.actions.specs.Core.{Left, shown, held, result}
-use Rattle.actions.specs.Table.{Anchored, Lends}
+use Rattle.actions.specs.Table.{Anchored}
 use Rattle.execute.specs.Stepping.{turned, opcodeAt, Asks, Prepared}
 use Rattle.execute.proofs.Fits.{asks-of, listed-of}
 use Rattle.execute.proofs.Went.{Stopped, turn-goes, turn-stops}
@@ -103,9 +103,6 @@ near {image = image} {map = map} {w = w} {r = r} {stack = stack} R =
     let g = good-of (parse image .program) map w (machine (shown r) stack) (R .good) in
     omega (arith, g .at .within, R .prepared .told .laid .sound (r .unit) (g .at .loaded) .short)
 
-pub lends : {image table map : List ℕ} {w : ℕ} (inputs : List ℕ) → Prepared image table map w → Lends image table map inputs (lentTo image map inputs)
-lends inputs P = record { image = refl; tabled = P .tabled; map = refl; inputs = refl }
-
 -- what is held as it was is ready as it was
 pub still : {image table map : List ℕ} {r q : Core} {stack store outputs st so ou : List ℕ} {ins : ℕ} → held q st so ou ≡ held r stack store outputs → Anchored table q
     → Ready image table map (length store) (length outputs) ins r stack → Ready image table map (length so) (length ou) ins q st
@@ -118,6 +115,11 @@ still {image} {table} {map} {st = st} {so = so} {ou = ou} e a R =
       outputs = ap (λ (y : State). length (y .outputs)) e ∙ R .outputs;
       inputs = R .inputs;
     }
+
+-- what is ready leads to what is a machine again, and so ready
+pub ready-on : {image table map : List ℕ} {w outs ins : ℕ} {r : Core} {stack : List ℕ} (q : Core) (st so ou : List ℕ) → Ready image table map w outs ins r stack → Anchored table q
+    → (isMachine (parse image .program) map (length so) (machine (shown q) st) ≡ true) × (length so ≡ w) × (length ou ≡ 16) → Ready image table map (length so) (length ou) ins q st
+ready-on {image} {table} {map} q st so ou R a (g, s, o) = record { prepared = subst (λ (n : ℕ). Prepared image table map n) (sym s) (R .prepared); good = g; anchored = a; outputs = o; inputs = R .inputs }
 
 -- before a turn: the budget that is left with one added, a machine, and the rest still to run
 pub record Going (image table map inputs : List ℕ) (w n : ℕ) (first : State) (left : ℕ) (r : Core) (stack store outputs : List ℕ) : Type 0 where
@@ -164,13 +166,7 @@ module _ (image table map inputs : List ℕ) where
             more = turn-more lent x l (left - 1) e z;
             most = omega (arith, G .most);
             sized = kept .1 ∙ G .sized;
-            ready = record {
-              prepared = subst (λ (k : ℕ). Prepared image table map k) (sym (kept .1)) (R .prepared);
-              good = kept .0;
-              anchored = a;
-              outputs = kept .2;
-              inputs = R .inputs;
-            };
+            ready = ready-on (q .core) st so ou R a kept;
             rest = G .rest ∙ (rw p (turn-next lent x l n (left - 1) (omega (arith, G .most, G .more)) e z));
           }
 

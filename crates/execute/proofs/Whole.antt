@@ -24,8 +24,8 @@ use Rattle.execute.specs.Stepping.{Asks, Prepared, opcodeAt, turned}
 use Rattle.execute.proofs.Fits.{asks-of, listed-of}
 use Rattle.execute.proofs.Went.{stop-most}
 
-pub lends-to : {image table map : List ℕ} {w : ℕ} (inputs : List ℕ) → Prepared image table map w → Lends image table map inputs (lentTo image map inputs)
-lends-to inputs P = record { image = refl; tabled = P .tabled; map = refl; inputs = refl }
+pub lends : {image table map : List ℕ} {w : ℕ} (inputs : List ℕ) → Prepared image table map w → Lends image table map inputs (lentTo image map inputs)
+lends inputs P = record { image = refl; tabled = P .tabled; map = refl; inputs = refl }
 
 module _ {image table map : List ℕ} {w : ℕ} (P : Prepared image table map w) (m : Machine) (good : isMachine (parse image .program) map w m ≡ true) where
   pub unit-few : m .registers .unit < 32
@@ -42,7 +42,7 @@ module _ {image table map : List ℕ} {w : ℕ} (P : Prepared image table map w)
 
     pub after-step : {l : Left} (inputs store out : List ℕ) → ((lent : Lent) → Lends image table map inputs lent → l ≡ turned lent 1 (held r (m .stack) store out))
         → l ≡ leftBy (state m store out) (instructionOf (lentTo image map inputs) (state m store out))
-    after-step inputs store out f = rw same at (f (lentTo image map inputs) (lends-to inputs P))
+    after-step inputs store out f = rw same at (f (lentTo image map inputs) (lends inputs P))
 
 -- what a step leaves is a machine again, and a stop leaves all as it was
 module _ {image table map : List ℕ} (inputs : List ℕ) (x : State) (P : Prepared image table map (length (x .store)))
@@ -75,7 +75,7 @@ module _ {image table map : List ℕ} (inputs : List ℕ) (x : State) (P : Prepa
       → ((lent : Lent) (bytes words : List ℕ) → Lends bytes table map words lent → (y : State) (o : Outcome) (out : List ℕ) → result s st so out ≡ leftBy y o → result t st′ so′ out ≡ leftBy y (handled (λ k. trapped lent k y) o))
       → result t st′ so′ out ≡ leftBy x (quietOf lent x)
   unfolding quietOf
-  settled-step s t {out = out} e f = f lent image inputs (lends-to inputs P) x (instructionOf lent x) out e
+  settled-step s t {out = out} e f = f lent image inputs (lends inputs P) x (instructionOf lent x) out e
 
   pub near-after : {l : Left} → l ≡ leftBy x (quietOf lent x) → l .state .machine .registers .pc .0 ≤ 32767
   near-after {l} e =

@@ -1,6 +1,6 @@
 use denote.Ref.{now}
 use native.Mathlib.Omega.{arith}
-use Rattle.engine.proofs.Turns.{lends}
+use Rattle.execute.proofs.Whole.{lends}
 use Rattle.engine.proofs.Advancing.{line-known, line-asks, line-goes, line-keeps, line-fails, line-still}
 use borrow.Author.Needs.{needs}
 use Rattle.engine.proofs.steps.by_line.Statement.{statement}

@@ -2,7 +2,8 @@ use mathlib.Core.Path.{sym, _∙_}
 use lib.ListN.{length}
 use native.Mathlib.Omega.{arith}
 use Rattle.actions.specs.Core.{held}
-use Rattle.engine.proofs.Turns.{Going, lends, begins, asks, listed, goes-on, stops-so, named, stands-still}
+use Rattle.execute.proofs.Whole.{lends}
+use Rattle.engine.proofs.Turns.{Going, begins, asks, listed, goes-on, stops-so, named, stands-still}
 use borrow.Author.Needs.{needs}
 use Rattle.engine.proofs.steps.instructions.Statement.{statement}
 use Rattle.engine.proofs.steps.instructions.Tie as tie

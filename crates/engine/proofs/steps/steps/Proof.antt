@@ -6,7 +6,8 @@ use Rattle.mcode.specs.Machine.{state, live, machine}
 use Rattle.mcode.specs.Step.{stepOf}
 use Rattle.mcode.specs.Run.{lentTo, runN}
 use Rattle.actions.specs.Core.{held}
-use Rattle.engine.proofs.Turns.{near, loaded-few, lends, ready}
+use Rattle.execute.proofs.Whole.{lends}
+use Rattle.engine.proofs.Turns.{near, loaded-few, ready}
 use Rattle.engine.proofs.Advancing.{Looping, loop-begins, loop-on, loop-ends}
 use Rattle.engine.proofs.Trapping.{trap-asks, trap-some, trap-goes, trap-keeps, trap-stops, trap-still}
 use borrow.Author.Needs.{needs}

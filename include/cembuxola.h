@@ -42,7 +42,9 @@
  *   number 0    count, the steps that were done, caught traps among them; the stopping instruction is not counted
  *   number 1    code, the program's own code (0 to 65,535) at stop 40, else 0
  *   number 2    requests, what is left of the word of requests (0 to 65,535)
- * A refused run answers count 0, code 0 and the requests as given.
+ *   number 3    channels, the word of the input channels that the run's READs took (0 to 65,535): bit i stands exactly when a completed READ
+ *               took input i
+ * A refused run answers count 0, code 0, the requests as given and channels 0.
  *
  * The word of requests says which lines are requested. Lines are 8 to 15; bit i has weight 2^i and is line i. Before an instruction, the
  * highest line is taken that is in the requests, not in M and not in store word 3; one that M or word 3 has waits. A line transfers to the
@@ -51,6 +53,11 @@
  * 2i + 1 is written. Either counts as a step and clears the bit. Where there is no process to transfer to, the run stops with 35 and the bit
  * is kept: start leaves zeros in these words, so the program must have written its word 2i before line i is requested. Bits 0 to 7 are
  * ignored and returned as given. Pass 0 where no line is used.
+ *
+ * The word of channels says which inputs a run rests on, whatever it stops with. A READ that gives trap 32 or 39 sets no bit, also where
+ * the trap is caught, nor does one of an earlier run. Of 16 inputs those outside the word do not matter: any run with the same other
+ * arguments and 16 inputs that agree on the word's channels gives the same answer and leaves the same. What runs one after another rest on
+ * is their words united: channels |= answer[3].
  *
  * Store word 14 names the trap process. Where it is not 0 and not P, a trap 32 to 40 is caught: it writes its number to word P + 6, then
  * transfers as a line does, with words 14 and 15, and the run goes on. The process that trapped is in word 15, its position that of the
@@ -72,7 +79,7 @@ extern "C" {
 
 #define CEMBUXOLA_PLACE_WORDS 2
 #define CEMBUXOLA_MACHINE_WORDS 24
-#define CEMBUXOLA_ANSWER_NUMBERS 3
+#define CEMBUXOLA_ANSWER_NUMBERS 4
 /* The inputs and the outputs of a run. */
 #define CEMBUXOLA_CHANNELS 16
 
@@ -97,7 +104,7 @@ enum {
     CEMBUXOLA_NOT_WHOLE = 13,     /* the code is not whole: a position reached from the entries without regard to depth has an
                                    * unlisted opcode, operands outside the code, a missing module or procedure, or a successor
                                    * outside the code */
-    CEMBUXOLA_WRONG_LENGTH = 20   /* the place is not 2 words, the machine not 24, or the answer not 3 numbers; tested before all else */
+    CEMBUXOLA_WRONG_LENGTH = 20   /* the place is not 2 words, the machine not 24, or the answer not 4 numbers; tested before all else */
 };
 
 /* Stops. A trap and an end leave everything as it was before their instruction, at which the machine stands; so does a line whose
@@ -142,7 +149,7 @@ uint16_t cembuxola_start(const uint8_t *image, size_t image_length, uint16_t *st
  *   store    read and written. Every refusal leaves it as it was.
  *   outputs  CEMBUXOLA_CHANNELS words, the current value of each output. Every refusal leaves them as they were.
  *   inputs   CEMBUXOLA_CHANNELS words, read
- *   answer   CEMBUXOLA_ANSWER_NUMBERS numbers, written: count, code and requests. 20 leaves them as they were.
+ *   answer   CEMBUXOLA_ANSWER_NUMBERS numbers, written: count, code, requests and channels. 20 leaves them as they were.
  *   n        the most steps, 0 to 4,294,967,295
  *   requests the lines that are requested, as said above; 0 where no line is used. The next run gets the word that is left, with the bits
  *            of the lines requested since: (uint16_t)(answer[2] | since). */

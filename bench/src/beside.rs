@@ -33,10 +33,17 @@ extern "C" {
     fn dlsym(object: *mut c_void, name: *const c_char) -> *mut c_void;
 }
 
-/// The functions of a build, and how many numbers its run answers.
+/// The functions of a build, and how many numbers its run answers: 2 before A.7, 3 before A.9.
 struct Build {
     library: Library,
     numbers: usize,
+}
+
+impl Build {
+    /// What is left of the requests is the third number.
+    fn takes_requests(&self) -> bool {
+        self.numbers >= 3
+    }
 }
 
 /// A program on one build, with buffers of its own. The store is the words from `at` on.
@@ -53,7 +60,8 @@ struct Begun<'a> {
 /// A shared object of the library; it stays open.
 ///
 /// A library from before A.3 takes no place, one from before A.7 no requests: on x86-64 a C function ignores further arguments. The map of one
-/// from before A.5 has a byte where it has an entry now, so the first bytes of the same buffer are enough.
+/// from before A.5 has a byte where it has an entry now, so the first bytes of the same buffer are enough. One from before A.9 answers no word of
+/// channels, and is lent an answer of fewer numbers.
 fn open(path: &str) -> Compared<Build> {
     let name = CString::new(path).map_err(|error| error.to_string())?;
     // SAFETY: a path, and the names of functions, as C strings.
@@ -71,11 +79,11 @@ fn open(path: &str) -> Compared<Build> {
     // SAFETY: the functions are as include/cembuxola.h declares them, or take less, as said above; the object stays open.
     let library = unsafe { Library::at(load, start, run) };
     let numbers = answer_numbers(&library)
-        .ok_or_else(|| format!("{path}: run takes no answer of 2 or 3 numbers"))?;
+        .ok_or_else(|| format!("{path}: run takes no answer of 2, 3 or 4 numbers"))?;
     Ok(Build { library, numbers })
 }
 
-/// The length of answer that is not 20: 2 before A.7.
+/// The length of answer that is not 20.
 fn answer_numbers(library: &Library) -> Option<usize> {
     (2..=ANSWER_NUMBERS).find(|&numbers| {
         let mut machine = [0; MACHINE_WORDS];
@@ -114,7 +122,7 @@ impl<'a> Begun<'a> {
     /// request does not know its instructions, and one from before A.7 takes no requests.
     fn begin(&mut self, program: &Loop) -> bool {
         let requested = program.requests.given != 0;
-        if requested && self.build.numbers < ANSWER_NUMBERS {
+        if requested && !self.build.takes_requests() {
             return false;
         }
         if self.load() != 0 || self.start() != 0 {

@@ -16,6 +16,8 @@ pub struct Total {
     pub steps: u64,
     /// The lines that were taken.
     pub lines: u64,
+    /// The runs that read an input.
+    pub reading: u64,
     /// How often each number was answered by load, and by a run.
     pub loads: BTreeMap<u16, u64>,
     pub numbers: BTreeMap<u16, u64>,
@@ -59,6 +61,7 @@ impl Total {
             self.runs += 1;
             self.steps += u64::from(answer[0]);
             self.lines += u64::from((requests & !left).count_ones());
+            self.reading += u64::from(answer[3] != 0);
             *self.numbers.entry(number).or_default() += 1;
         }
         self.cases += 1;
@@ -84,14 +87,15 @@ fn wrong_places(sides: &Sides) -> Compared<()> {
 
 /// A machine or an answer of a wrong length is answered with 20, and nothing is changed.
 fn wrong_lengths(sides: &Sides, inputs: &[u16], n: u32, requests: u16) -> Compared<()> {
-    const LENGTHS: [(usize, usize); 7] = [
+    const LENGTHS: [(usize, usize); 8] = [
         (0, ANSWER_NUMBERS),
         (MACHINE_WORDS - 1, ANSWER_NUMBERS),
         (MACHINE_WORDS + 1, ANSWER_NUMBERS),
         (MACHINE_WORDS, 0),
         (MACHINE_WORDS, 1),
         (MACHINE_WORDS, 2),
-        (MACHINE_WORDS, 4),
+        (MACHINE_WORDS, 3),
+        (MACHINE_WORDS, 5),
     ];
     for (machine_words, answer_numbers) in LENGTHS {
         let mut ours = sides.ours.clone();
@@ -125,7 +129,7 @@ fn wrong_lengths(sides: &Sides, inputs: &[u16], n: u32, requests: u16) -> Compar
     Ok(())
 }
 
-/// A module above 255 is refused as module 255 is, the words stay, and the requests come back as given.
+/// A module above 255 is refused as module 255 is, the words stay, the requests come back as given, and no channel is read.
 fn far_module(sides: &Sides, inputs: &[u16], n: u32, requests: u16) -> Compared<()> {
     for module in [255, 256, 257, 65_535] {
         let mut ours = sides.ours.clone();
@@ -138,7 +142,7 @@ fn far_module(sides: &Sides, inputs: &[u16], n: u32, requests: u16) -> Compared<
         let kept = ours.machine == machine
             && ours.store == sides.ours.store
             && ours.outputs == sides.ours.outputs;
-        let refused = (u16::from(other.number), [0, 0, u32::from(requests)]);
+        let refused = (u16::from(other.number), [0, 0, u32::from(requests), 0]);
         if answer != refused || !kept {
             return Err(format!(
                 "module {module}: answered {answer:?}, all kept: {kept}"

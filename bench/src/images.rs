@@ -4,7 +4,8 @@ use second::assemble::{encode, Source};
 use second::image::Procedure;
 use second::request::{self, HELD, LINES};
 
-/// A program that runs on for ever, with words to write into its store and into M after start, and the requests of each of its runs.
+/// A program that runs on for ever, with words to write into its store and into M after start, the requests of each of its runs, and the word of
+/// channels that each answers.
 #[derive(Default)]
 pub struct Loop {
     pub name: &'static str,
@@ -12,6 +13,7 @@ pub struct Loop {
     pub patches: Vec<(u16, u16)>,
     pub mask: u16,
     pub requests: Requests,
+    pub channels: u16,
 }
 
 /// The word of requests that a run is given, and what it leaves of it.
@@ -366,12 +368,27 @@ pub fn trap_runs() -> [Loop; 2] {
 }
 
 fn input_and_output() -> Loop {
+    const INPUT: u8 = 5;
     let body = [
-        0o025, 3, 5, 0o240, // word G+3 becomes input 5
+        0o025, 3, INPUT, 0o240, // word G+3 becomes the input
         6, 0o103, 0o241, // output 6 becomes it
         7, 0o044, 0o241, 0o103, 1, 0o270, 0o064, // output 7 becomes x, and x the input and 1
     ];
-    plain("input and output", &[with_data(repeated(&body))])
+    Loop {
+        channels: 1 << INPUT,
+        ..plain("input and output", &[with_data(repeated(&body))])
+    }
+}
+
+/// Words of the module's data become inputs: 4 of 13 steps are READs.
+fn inputs() -> Loop {
+    const INPUTS: [u8; 4] = [0, 5, 10, 15];
+    let read = |(&channel, word)| [0o025, word, channel, 0o240];
+    let body: Vec<u8> = INPUTS.iter().zip(3..).flat_map(read).collect();
+    Loop {
+        channels: INPUTS.iter().map(|channel| 1 << channel).sum(),
+        ..plain("inputs", &[with_data(repeated(&body))])
+    }
 }
 
 /// The primes below 1,000, again and again: flags from G+3 on, i, j and the flags' address in locals 4, 5 and 6.
@@ -425,6 +442,7 @@ pub fn loops() -> Vec<Loop> {
         transfers("transfers, 2, colliding", 2, FIRST_STACK),
         transfers("transfers, 16, colliding", 16, FIRST_STACK),
         input_and_output(),
+        inputs(),
         sieve(),
     ]
 }

@@ -21,8 +21,8 @@ fn number(text: &str) -> Result<u64, String> {
 fn compare(count: &str, seed: &str) -> Result<(), String> {
     let total = compare::compare(number(count)?, number(seed)?)?;
     println!(
-        "{} cases, {} runs, {} steps, {} lines taken: no difference",
-        total.cases, total.runs, total.steps, total.lines
+        "{} cases, {} runs, {} steps, {} lines taken, {} runs with channels: no difference",
+        total.cases, total.runs, total.steps, total.lines, total.reading
     );
     for (number, times) in &total.loads {
         println!("load answered {number:2}: {times}");

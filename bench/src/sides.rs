@@ -123,6 +123,7 @@ impl Sides {
         same("count", answer[0], other.count)?;
         same("code", answer[1], u32::from(other.code))?;
         same("requests", answer[2], u32::from(other.requests))?;
+        same("channels", answer[3], u32::from(other.channels))?;
         self.compare()?;
         Ok((number, answer))
     }

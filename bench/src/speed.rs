@@ -1,6 +1,6 @@
 //! Times both sides in turn, in one process, after their results were compared.
 
-use crate::images::{self, Long, Loop, Requests, LINES_A_RUN, LINE_STEPS, LONG, TRAP_STEPS};
+use crate::images::{self, Long, Loop, LINES_A_RUN, LINE_STEPS, LONG, TRAP_STEPS};
 use crate::mixed;
 use crate::sides::{Compared, Sides};
 use crate::words::words;
@@ -61,11 +61,12 @@ fn begun_loop(one: &Loop) -> Compared<Sides> {
     Ok(sides)
 }
 
-/// Runs n steps on both sides, compares, and times so many such runs.
-fn time_runs(sides: &mut Sides, n: u32, requests: Requests, runs: u32) -> Compared<[f64; 2]> {
-    let Requests { given, left } = requests;
+/// Runs n steps of a program on both sides, compares, and times so many such runs.
+fn time_runs(sides: &mut Sides, one: &Loop, n: u32, runs: u32) -> Compared<[f64; 2]> {
+    let given = one.requests.given;
     let ran = sides.run(&INPUTS, n, given)?;
-    if ran != (30, [n, 0, u32::from(left)]) {
+    let [left, channels] = [one.requests.left, one.channels].map(u32::from);
+    if ran != (30, [n, 0, left, channels]) {
         return Err(format!("the run answers {ran:?}"));
     }
     let Sides {
@@ -85,7 +86,7 @@ fn time_each_of(
     (n, runs): (u32, u32),
     (count, unit): (u32, &str),
 ) -> Compared<[f64; 2]> {
-    let times = time_runs(&mut begun_loop(one)?, n, one.requests, runs)?;
+    let times = time_runs(&mut begun_loop(one)?, one, n, runs)?;
     let each = times.map(|time| time * 1e9 / f64::from(count));
     line(one.name, unit, each, each[0] / each[1]);
     Ok(each)
@@ -142,7 +143,7 @@ fn time_load(one: &Long) -> Compared<()> {
 }
 
 fn time_tests(one: &Long) -> Compared<()> {
-    let times = time_runs(&mut begun(&one.image)?, 1, Requests::default(), 1)?;
+    let times = time_runs(&mut begun(&one.image)?, &Loop::default(), 1, 1)?;
     line(
         one.name,
         "us",

@@ -1,8 +1,9 @@
-//! reading [--requests WORD] [--after N] FILE: the desk's reading of an image, by the wrapper: W = 4,096, inputs 0, outputs first 0, n = 1,000.
-//! After N steps (0) without requests it goes on with the word of requests (0), unless the program has stopped; with a word other than 0 a third
-//! line has what is left of it. Where the store tells of a caught trap, the last line has its number, process, module and position. Where code
-//! is not whole, standard error says at which place. It reads every image that load accepts, its map being as long as the image; the desk
-//! program's has 16,384 entries.
+//! reading [--input CH=VALUE].. [--requests WORD] [--after N] FILE: the desk's reading of an image, by the wrapper: W = 4,096, outputs first 0,
+//! n = 1,000. Inputs are 0 unless given; of two of a channel the last one holds. After N steps (0) without requests it goes on with the word of
+//! requests (0), unless the program has stopped; with a word other than 0 a third line has what is left of it. Where the store tells of a caught
+//! trap, a further line has its number, process, module and position. The last lines have the inputs that the reading rests on: those given, and
+//! those not given, which are a guess. Where code is not whole, standard error says at which place. It reads every image that load accepts, its
+//! map being as long as the image; the desk program's has 16,384 entries.
 
 use cembuxola::{Cabinet, Ran, Refusal, Stop, CHANNELS};
 use std::process::ExitCode;
@@ -16,6 +17,8 @@ const RECORD_WORDS: usize = 8;
 const TRAP_NUMBER: usize = 6;
 
 struct Asked {
+    /// By channel, where given.
+    inputs: [Option<u16>; CHANNELS],
     requests: u16,
     after: u32,
     file: String,
@@ -23,7 +26,7 @@ struct Asked {
 
 fn main() -> ExitCode {
     let Some(asked) = asked(std::env::args().skip(1)) else {
-        eprintln!("usage: reading [--requests WORD] [--after N] FILE");
+        eprintln!("usage: reading [--input CH=VALUE].. [--requests WORD] [--after N] FILE");
         return ExitCode::from(2);
     };
     let file = &asked.file;
@@ -43,15 +46,20 @@ fn main() -> ExitCode {
 
 /// Options with their values, and FILE behind them.
 fn asked(mut arguments: impl Iterator<Item = String>) -> Option<Asked> {
-    let (mut requests, mut after) = (0, 0);
+    let (mut inputs, mut requests, mut after) = ([None; CHANNELS], 0, 0);
     loop {
         let argument = arguments.next()?;
         match &argument[..] {
+            "--input" => {
+                let (channel, value) = input(&arguments.next()?)?;
+                inputs[channel] = Some(value);
+            }
             "--requests" => requests = number(&arguments.next()?)?,
             "--after" => after = number(&arguments.next()?)?,
             _ if arguments.next().is_some() => return None,
             _ => {
                 return Some(Asked {
+                    inputs,
                     requests,
                     after,
                     file: argument,
@@ -59,6 +67,13 @@ fn asked(mut arguments: impl Iterator<Item = String>) -> Option<Asked> {
             }
         }
     }
+}
+
+/// CH=VALUE.
+fn input(text: &str) -> Option<(usize, u16)> {
+    let (channel, value) = text.split_once('=')?;
+    let channel = number(channel).filter(|&channel| channel < CHANNELS);
+    Some((channel?, number(value)?))
 }
 
 /// A number of digits alone.
@@ -75,16 +90,18 @@ fn print_refusal(file: &str, refusal: Refusal) {
 }
 
 /// Some steps without requests, then the rest with them, unless the program has stopped. What a run leaves of them is handed on to the next,
-/// with the bits of the lines that are requested in between.
+/// with the bits of the lines that are requested in between. Their words of channels are united.
 fn run(cabinet: &mut Cabinet, asked: &Asked) -> Ran {
-    let first = cabinet.run(&[0; CHANNELS], asked.after.min(STEPS), 0);
+    let inputs = asked.inputs.map(Option::unwrap_or_default);
+    let first = cabinet.run(&inputs, asked.after.min(STEPS), 0);
     let requests = first.requests | asked.requests;
     if first.stop != Stop::Spent {
         return Ran { requests, ..first };
     }
-    let rest = cabinet.run(&[0; CHANNELS], STEPS - first.count, requests);
+    let rest = cabinet.run(&inputs, STEPS - first.count, requests);
     Ran {
         count: first.count + rest.count,
+        channels: first.channels | rest.channels,
         ..rest
     }
 }
@@ -107,6 +124,27 @@ fn caught(store: &[u16], modules: usize) -> Option<String> {
     ))
 }
 
+/// The line of the inputs in a word of channels that are given, or of those that are not, if there are any.
+fn print_inputs(title: &str, channels: u16, asked: &Asked, is_given: bool) {
+    let inputs = asked.inputs.iter().enumerate();
+    let these: String = inputs
+        .filter(|(channel, input)| channels >> channel & 1 == 1 && input.is_some() == is_given)
+        .map(|(channel, input)| format!(" {channel}={}", input.unwrap_or_default()))
+        .collect();
+    if !these.is_empty() {
+        println!("{title}:{these}");
+    }
+}
+
+/// What the reading rests on. Inputs outside the word of channels do not matter.
+fn print_rests_on(channels: u16, asked: &Asked) {
+    if channels == 0 {
+        println!("rests on no inputs");
+    }
+    print_inputs("rests on inputs given", channels, asked, true);
+    print_inputs("rests on a guess, inputs not given", channels, asked, false);
+}
+
 /// With the image's module count.
 fn print_reading(mut cabinet: Cabinet, modules: usize, asked: &Asked) {
     let ran = run(&mut cabinet, asked);
@@ -122,4 +160,5 @@ fn print_reading(mut cabinet: Cabinet, modules: usize, asked: &Asked) {
     if let Some(line) = caught(cabinet.store(), modules) {
         println!("{line}");
     }
+    print_rests_on(ran.channels, asked);
 }

@@ -159,4 +159,4 @@ impl Library {
     }
 }
 
-const _: () = assert!(PLACE_WORDS == 2 && MACHINE_WORDS == 24 && ANSWER_NUMBERS == 3);
+const _: () = assert!(PLACE_WORDS == 2 && MACHINE_WORDS == 24 && ANSWER_NUMBERS == 4);

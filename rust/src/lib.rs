@@ -19,8 +19,8 @@ use c::LINKED;
 pub const PLACE_WORDS: usize = 2;
 /// The words of a machine.
 pub const MACHINE_WORDS: usize = 24;
-/// The numbers of a run's answer: count, code and the requests left.
-pub const ANSWER_NUMBERS: usize = 3;
+/// The numbers of a run's answer: count, code, the requests left and the channels read.
+pub const ANSWER_NUMBERS: usize = 4;
 /// The inputs and the outputs of a run.
 pub const CHANNELS: usize = 16;
 
@@ -54,8 +54,8 @@ impl Machine {
     }
 }
 
-/// How a run stopped, and how many steps it made. The stopping instruction is not counted; a line that was taken and a trap that was caught
-/// are.
+/// How a run stopped, how many steps it made, and which inputs it rests on. The stopping instruction is not counted; a line that was taken
+/// and a trap that was caught are.
 #[derive(Clone, Copy, Debug, PartialEq, Eq)]
 pub struct Ran {
     pub stop: Stop,
@@ -63,6 +63,11 @@ pub struct Ran {
     /// What is left of the requests: the bits of the lines that were taken are cleared. The next run gets this word, with the bits of
     /// the lines that were requested since.
     pub requests: u16,
+    /// The input channels that the READs of this run took: bit i stands exactly when a completed READ took input i, so not where it trapped,
+    /// caught or not. Inputs outside this word do not matter: a run with the same image, map, n, machine, store, outputs and requests, and with 16
+    /// inputs that agree on the word's channels, gives the same `Ran` and leaves the same. Several runs one after another rest on the union of
+    /// their words, by `|`.
+    pub channels: u16,
 }
 
 /// Tests an image and fills its map, which has as many entries as the image has bytes, or more. Where the code is not whole, the refusal
@@ -87,7 +92,7 @@ pub const fn line(i: u16) -> u16 {
 }
 
 /// Makes at most n steps, with these requests: before an instruction the highest line is taken that is requested, not in M and not in store
-/// word 3. A refused run leaves everything as it was, the requests too.
+/// word 3. A refused run leaves everything as it was, the requests too, and has read no channel.
 ///
 /// Where store word 14 is not 0 and not P, a trap is caught: it writes its number to word P + 6, then transfers as a line does to the process
 /// in word 14, and the run goes on. The process that trapped is in word 15, at the trapping instruction. This counts as a step. A line's failed
@@ -117,14 +122,15 @@ pub fn run(
         n,
         requests,
     );
-    let [count, code, left] = answer;
+    let [count, code, left, channels] = answer;
     // a code is a word
     let stop = Stop::numbered(number, code as u16).ok_or_else(|| Refusal::numbered(number))?;
     Ok(Ran {
         stop,
         count,
-        // so are the requests left
+        // so are the requests left and the channels read
         requests: left as u16,
+        channels: channels as u16,
     })
 }
 
@@ -154,8 +160,8 @@ impl Cabinet {
         })
     }
 
-    /// Makes at most n steps, with these requests; traps are caught as [`run`] says. After an accepted start no run with 16 inputs is refused:
-    /// that is the engine's third demand.
+    /// Makes at most n steps, with these inputs and requests; traps are caught as [`run`] says, and of the inputs those in [`Ran::channels`] alone
+    /// matter. After an accepted start no run with 16 inputs is refused: that is the engine's third demand.
     pub fn run(&mut self, inputs: &[u16; CHANNELS], n: u32, requests: u16) -> Ran {
         run(
             &mut self.machine,

@@ -38,7 +38,11 @@ const REFUSALS: [(Refusal, u16, &str); 12] = [
     (Refusal::BitMap, 5, "bit 3 to 7 of a bit map"),
     (Refusal::Field, 6, "a field out of range"),
     (Refusal::MapShort, 7, "map shorter than image"),
-    (Refusal::NoDepths, 8, "no depths fit the code, which is whole"),
+    (
+        Refusal::NoDepths,
+        8,
+        "no depths fit the code, which is whole",
+    ),
     (Refusal::StoreSize, 9, "W below Z + 36 or over 65,535"),
     (Refusal::ChannelCount, 10, "inputs or outputs not 16 words"),
     (Refusal::NotAMachine, 11, "not a machine"),

@@ -1,20 +1,16 @@
 //! The wrapper over the proved library: the paper's marked cases, every refusal, and the buffers that a refusal leaves alone.
 
+mod common;
+
 use cembuxola::c::LINKED;
 use cembuxola::{
     load, run, start, Cabinet, Machine, Place, Ran, Refusal, Stop, CHANNELS, MACHINE_WORDS,
     UNMARKED,
 };
+use common::{image, INPUTS};
 
 /// "Image (hex) 01 00 00 04 02 07 A1 EC".
 const READING: [u8; 8] = [0x01, 0x00, 0x00, 0x04, 0x02, 0x07, 0xA1, 0xEC];
-const INPUTS: [u16; CHANNELS] = [0; CHANNELS];
-
-/// An image of one module with this code and no other field.
-fn image(code: &[u8]) -> Vec<u8> {
-    let length = (code.len() as u16).to_be_bytes();
-    [&[1, 0], &length[..], code].concat()
-}
 
 fn not_whole(module: u16, position: u16) -> Refusal {
     Refusal::NotWhole(Place { module, position })
@@ -451,7 +447,10 @@ fn running_in_parts_is_running_at_once() {
 
 #[test]
 fn words_for_people() {
-    assert_eq!(Refusal::NoDepths.to_string(), "refused 8: no depths fit the code, which is whole");
+    assert_eq!(
+        Refusal::NoDepths.to_string(),
+        "refused 8: no depths fit the code, which is whole"
+    );
     assert_eq!(
         not_whole(1, 299).to_string(),
         "refused 13: the code is not whole (module 1, position 299)"

@@ -1,15 +1,13 @@
 //! The word of requests, by the example of the clock line (examples/clock.lst): line 8 wakes a lamp process, which switches output 4 over and
 //! transfers back.
 
+mod common;
+
 use cembuxola::c::LINKED;
-use cembuxola::{
-    line, load, run, start, Cabinet, Machine, Ran, Stop, ANSWER_NUMBERS, CHANNELS, MACHINE_WORDS,
-};
+use cembuxola::{line, Cabinet, Ran, Stop, ANSWER_NUMBERS, CHANNELS, MACHINE_WORDS};
+use common::{ended, ran, spent, Lent, INPUTS, TICK, WORDS};
 
 const CLOCK: &[u8] = include_bytes!("../../examples/clock.img");
-const WORDS: usize = 4096;
-const INPUTS: [u16; CHANNELS] = [0; CHANNELS];
-const TICK: u16 = line(8);
 /// Store words: the lines held back, the target of line 8, and the process that it interrupted.
 const HELD: usize = 3;
 const TARGET: usize = 16;
@@ -29,25 +27,8 @@ fn clock() -> Cabinet {
 /// The clock after some steps without requests.
 fn clock_after(steps: u32) -> Cabinet {
     let mut clock = clock();
-    let ran = clock.run(&INPUTS, steps, 0);
-    assert_eq!((ran.stop, ran.count), (Stop::Spent, steps));
+    assert_eq!(clock.run(&INPUTS, steps, 0), spent(steps, 0));
     clock
-}
-
-fn ran(stop: Stop, count: u32, requests: u16) -> Ran {
-    Ran {
-        stop,
-        count,
-        requests,
-    }
-}
-
-fn spent(count: u32, requests: u16) -> Ran {
-    ran(Stop::Spent, count, requests)
-}
-
-fn ended(count: u32, requests: u16) -> Ran {
-    ran(Stop::Ended, count, requests)
 }
 
 fn failed(count: u32, requests: u16) -> Ran {
@@ -132,38 +113,12 @@ fn a_line_that_m_masks_waits() {
     assert_eq!(clock.machine().pc(), 50);
 }
 
-/// The clock after some steps, with buffers that can be written.
-struct Lent {
-    map: Vec<u32>,
-    store: Vec<u16>,
-    outputs: [u16; CHANNELS],
-    machine: Machine,
-}
-
 impl Lent {
+    /// The clock after some steps.
     fn after(steps: u32) -> Lent {
-        let mut map = vec![0; CLOCK.len()];
-        load(CLOCK, &mut map).unwrap();
-        let mut store = vec![0; WORDS];
-        let machine = start(CLOCK, &mut store).unwrap();
-        let mut lent = Lent {
-            map,
-            store,
-            outputs: [0; CHANNELS],
-            machine,
-        };
+        let mut lent = Lent::new(CLOCK);
         assert_eq!(lent.run(steps, 0), spent(steps, 0));
         lent
-    }
-
-    fn run(&mut self, n: u32, requests: u16) -> Ran {
-        let Lent {
-            map,
-            store,
-            outputs,
-            machine,
-        } = self;
-        run(machine, CLOCK, map, store, outputs, &INPUTS, n, requests).unwrap()
     }
 }
 
@@ -186,7 +141,7 @@ fn a_line_to_the_process_itself() {
     assert_eq!(lent.store[INTERRUPTED], before.words[3]);
 }
 
-/// Of the C function: count 0, code 0, the requests as given.
+/// Of the C function: count 0, code 0, the requests as given, no channels.
 #[test]
 fn a_refused_run_returns_the_word_as_given() {
     let lent = Lent::after(ADDING);
@@ -212,7 +167,7 @@ fn a_refused_run_returns_the_word_as_given() {
                 9,
                 requests,
             );
-            assert_eq!((answered, answer), (number, [0, 0, requests.into()]));
+            assert_eq!((answered, answer), (number, [0, 0, requests.into(), 0]));
             assert_eq!((after, outputs), (machine, [5; CHANNELS]));
             assert_eq!(store, lent.store);
         }
@@ -221,25 +176,15 @@ fn a_refused_run_returns_the_word_as_given() {
 
 #[test]
 fn an_answer_of_another_length_is_answered_before_all_else() {
-    for numbers in [0, 1, 2, 4] {
+    for numbers in [0, 1, 2, 3, 5] {
         let mut lent = Lent::after(ADDING);
+        let before = lent.clone();
         let mut answer = vec![7; numbers];
-        let mut machine = lent.machine.words;
-        let number = LINKED.run(
-            &mut machine,
-            CLOCK,
-            &lent.map,
-            &mut lent.store,
-            &mut lent.outputs,
-            &INPUTS,
-            &mut answer,
-            9,
-            TICK,
-        );
+        let number = lent.number(&INPUTS, &mut answer, 9, TICK);
         assert_eq!((number, answer), (20, vec![7; numbers]));
-        assert_eq!(machine, lent.machine.words);
+        assert_eq!(lent, before);
     }
-    assert_eq!((ANSWER_NUMBERS, MACHINE_WORDS), (3, 24));
+    assert_eq!((ANSWER_NUMBERS, MACHINE_WORDS), (4, 24));
 }
 
 /// n steps, then m with the word that the first run left, are n + m.
@@ -255,6 +200,7 @@ fn the_word_is_handed_on() {
             let second = parts.run(&INPUTS, ALL - n, first.requests);
             assert_eq!(first.count + second.count, all.count);
             assert_eq!((second.stop, second.requests), (all.stop, all.requests));
+            assert_eq!((first.channels, second.channels, all.channels), (0, 0, 0));
             assert_eq!(parts.machine(), whole.machine());
             assert_eq!(parts.store(), whole.store());
             assert_eq!(parts.outputs(), whole.outputs());

@@ -1,21 +1,18 @@
 //! Traps that are caught, by the example of the safe pattern (examples/safe.lst): a division by zero leads to the safe process, which writes
 //! outputs 4 to 6 and idles. And each trap by itself, in short programs.
 
-use cembuxola::c::LINKED;
-use cembuxola::{line, load, run, start, Cabinet, Machine, Ran, Stop, ANSWER_NUMBERS, CHANNELS};
+mod common;
+
+use cembuxola::{line, Cabinet, Ran, Stop, ANSWER_NUMBERS};
+use common::{ended, image, input, ran, reading, spent, Lent, INPUTS, TICK, WORDS};
+use common::{M, NUMBER, P, S, TRAPPED, TRAP_TARGET as TARGET};
 
 const SAFE: &[u8] = include_bytes!("../../examples/safe.img");
-const WORDS: usize = 4096;
-const INPUTS: [u16; CHANNELS] = [0; CHANNELS];
-const TICK: u16 = line(8);
-/// Store words: the trap process, and the process that trapped; in the record of that one, where its number is.
-const TARGET: usize = 14;
-const TRAPPED: usize = 15;
-const NUMBER: usize = 6;
-/// The words of the machine that are P, S and M.
-const P: usize = 3;
-const S: usize = 5;
-const M: usize = 7;
+/// The channels of the photocell and of the meter, and the steps up to the first READ of each, with that one.
+const PHOTOCELL: u16 = 1 << 1;
+const METER: u16 = 1 << 2;
+const CELL_READ: u32 = 20;
+const METER_READ: u32 = 36;
 /// The steps before word 14 is written, those before UDIV in the second hour, with 4, 600 and 2 on the stack, and those before it divides by 0.
 const SET_UP: u32 = 13;
 const DIVIDING: u32 = 51;
@@ -28,29 +25,20 @@ const RTN: u16 = 58;
 const ENTRY: u16 = 59;
 const IDLE: u16 = 71;
 
-fn ran(stop: Stop, count: u32, requests: u16) -> Ran {
-    Ran {
-        stop,
-        count,
-        requests,
-    }
-}
-
-fn spent(count: u32, requests: u16) -> Ran {
-    ran(Stop::Spent, count, requests)
-}
-
-/// The inputs, all 0 but for one.
-fn input(channel: usize, word: u16) -> [u16; CHANNELS] {
-    let mut inputs = INPUTS;
-    inputs[channel] = word;
-    inputs
+/// The first steps of the safe program by night.
+fn first_steps(steps: u32) -> Ran {
+    let channels = match steps {
+        METER_READ.. => PHOTOCELL | METER,
+        CELL_READ.. => PHOTOCELL,
+        _ => 0,
+    };
+    reading(channels, spent(steps, 0))
 }
 
 /// The safe cabinet after some steps.
 fn safe_after(steps: u32) -> Cabinet {
     let mut safe = Cabinet::new(SAFE, WORDS).unwrap();
-    assert_eq!(safe.run(&INPUTS, steps, 0), spent(steps, 0));
+    assert_eq!(safe.run(&INPUTS, steps, 0), first_steps(steps));
     safe
 }
 
@@ -59,62 +47,12 @@ fn pattern(cabinet: &Cabinet) -> &[u16] {
     &cabinet.outputs()[4..7]
 }
 
-/// An image of one module with this code and no other field.
-fn image(code: &[u8]) -> Vec<u8> {
-    let length = (code.len() as u16).to_be_bytes();
-    [&[1, 0], &length[..], code].concat()
-}
-
-/// A program with buffers that can be written.
-#[derive(Clone, Debug, PartialEq)]
-struct Lent {
-    image: Vec<u8>,
-    map: Vec<u32>,
-    store: Vec<u16>,
-    outputs: [u16; CHANNELS],
-    machine: Machine,
-}
-
 impl Lent {
-    fn new(image: &[u8]) -> Lent {
-        let mut map = vec![0; image.len()];
-        load(image, &mut map).unwrap();
-        let mut store = vec![0; WORDS];
-        let machine = start(image, &mut store).unwrap();
-        Lent {
-            image: image.to_vec(),
-            map,
-            store,
-            outputs: [0; CHANNELS],
-            machine,
-        }
-    }
-
     /// The safe cabinet after some steps.
     fn safe_after(steps: u32) -> Lent {
         let mut lent = Lent::new(SAFE);
-        assert_eq!(lent.run(steps, 0), spent(steps, 0));
+        assert_eq!(lent.run(steps, 0), first_steps(steps));
         lent
-    }
-
-    /// A record of a process at position 0 of the only module, named in word 14.
-    fn with_trap_process(mut self) -> Lent {
-        const RECORD: usize = 40;
-        self.store[TARGET] = RECORD as u16;
-        // its stack is the count of its saved words, 0, at 50
-        self.store[RECORD..RECORD + 6].copy_from_slice(&[128, 0, 0, 0, 51, 80]);
-        self
-    }
-
-    fn run(&mut self, n: u32, requests: u16) -> Ran {
-        let Lent {
-            image,
-            map,
-            store,
-            outputs,
-            machine,
-        } = self;
-        run(machine, image, map, store, outputs, &INPUTS, n, requests).unwrap()
     }
 
     /// The next run stops at once with this trap, and nothing is changed.
@@ -122,6 +60,13 @@ impl Lent {
         let before = self.clone();
         assert_eq!(self.run(1000, requests), ran(trap, 0, requests));
         assert_eq!(*self, before);
+    }
+}
+
+#[test]
+fn the_first_hour_reads_the_photocell_and_the_meter() {
+    for steps in 0..=METER_READ {
+        safe_after(steps);
     }
 }
 
@@ -161,15 +106,19 @@ fn a_trap_is_caught() {
 
 #[test]
 fn one_run_goes_on_behind_the_trap() {
+    let both = PHOTOCELL | METER;
     let mut safe = safe_after(0);
-    assert_eq!(safe.run(&INPUTS, 1000, 0), spent(1000, 0));
+    assert_eq!(safe.run(&INPUTS, 1000, 0), reading(both, spent(1000, 0)));
     assert_eq!(
         (safe.machine().pc(), pattern(&safe)),
         (IDLE, &[50, 1, 36][..])
     );
     // more is used than there was
     let mut safe = safe_after(0);
-    assert_eq!(safe.run(&input(2, 700), 1000, 0), spent(1000, 0));
+    assert_eq!(
+        safe.run(&input(2, 700), 1000, 0),
+        reading(both, spent(1000, 0))
+    );
     assert_eq!(
         (safe.machine().pc(), pattern(&safe)),
         (IDLE, &[50, 1, 37][..])
@@ -179,7 +128,10 @@ fn one_run_goes_on_behind_the_trap() {
 #[test]
 fn an_end_is_not_caught() {
     let mut safe = safe_after(0);
-    assert_eq!(safe.run(&input(1, 200), 1000, 0), ran(Stop::Ended, 27, 0));
+    assert_eq!(
+        safe.run(&input(1, 200), 1000, 0),
+        reading(PHOTOCELL, ended(27, 0))
+    );
     assert_eq!((safe.machine().pc(), pattern(&safe)), (RTN, &[0, 0, 0][..]));
     assert_eq!(safe.store()[TRAPPED], 0);
 }
@@ -274,7 +226,7 @@ fn each_trap_is_caught() {
         let Ran { stop, count, .. } = stopped.run(1000, 0);
         assert_eq!(stop, trap);
         let (p, pc) = (stopped.machine.words[P], stopped.machine.pc());
-        let mut lent = Lent::new(&image(code)).with_trap_process();
+        let mut lent = Lent::new(&image(code)).with_trap_process(0);
         assert_eq!(lent.run(count + 1, 0), spent(count + 1, 0));
         assert_eq!(
             (lent.machine.words[P], lent.machine.pc()),
@@ -291,20 +243,10 @@ fn each_trap_is_caught() {
 /// Of the C function: the code of a caught 40 is nowhere in the answer; that of the trap process, which stops, is.
 #[test]
 fn the_code_of_40_is_lost() {
-    let mut lent = Lent::new(&image(&[7, 0xC4])).with_trap_process();
-    for (n, number, wanted) in [(2, 30, [2, 0, 0]), (9, 40, [1, 7, 0])] {
+    let mut lent = Lent::new(&image(&[7, 0xC4])).with_trap_process(0);
+    for (n, number, wanted) in [(2, 30, [2, 0, 0, 0]), (9, 40, [1, 7, 0, 0])] {
         let mut answer = [9; ANSWER_NUMBERS];
-        let answered = LINKED.run(
-            &mut lent.machine.words,
-            &lent.image,
-            &lent.map,
-            &mut lent.store,
-            &mut lent.outputs,
-            &INPUTS,
-            &mut answer,
-            n,
-            0,
-        );
+        let answered = lent.number(&INPUTS, &mut answer, n, 0);
         assert_eq!((answered, answer), (number, wanted));
     }
 }
@@ -324,6 +266,7 @@ fn the_trap_is_one_of_n_and_m() {
             let second = parts.run(ALL - n, first.requests);
             assert_eq!(first.count + second.count, all.count);
             assert_eq!((second.stop, second.requests), (all.stop, all.requests));
+            assert_eq!(first.channels | second.channels, all.channels);
             assert_eq!(parts, whole);
         }
     }

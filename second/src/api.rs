@@ -32,8 +32,8 @@ impl LoadAnswer {
     }
 }
 
-/// What run answers. A refused run answers its number, code 0, count 0, and
-/// the requests and the machine as given.
+/// What run answers. A refused run answers its number, code 0, count 0, no
+/// channels, and the requests and the machine as given.
 #[derive(Clone, Copy, Debug, PartialEq, Eq)]
 pub struct RunAnswer {
     /// A refusal 1 to 12 or a stop 30 to 40.
@@ -44,6 +44,8 @@ pub struct RunAnswer {
     pub count: u32,
     /// What is left of the word of requests.
     pub requests: u16,
+    /// A.9: "bit i set exactly when a completed READ took input channel i".
+    pub channels: u16,
     pub machine: Machine,
 }
 
@@ -120,12 +122,13 @@ pub fn run_observed<O: Observer>(
 ) -> RunAnswer {
     match admit(&machine, buffers) {
         Ok((program, lent)) => exec::execute(&program, lent, machine, requests, n, observer),
-        // A.7: "A refused run returns the word as given."
+        // A.7: "A refused run returns the word as given." A.9: "and 0 on a refusal".
         Err(refusal) => RunAnswer {
             number: refusal,
             code: 0,
             count: 0,
             requests,
+            channels: 0,
             machine,
         },
     }
@@ -170,28 +173,58 @@ fn admit<'a>(machine: &Machine, buffers: Buffers<'a>) -> Result<(Program, Lent<'
 /// first 0, n = 1,000". A.5: "The desk program's map has 16,384 entries". A.7:
 /// "The desk program gives 0." The text ends in a line feed.
 pub fn desk(image: &[u8]) -> String {
-    match desk_run(image, 0, 0) {
+    match desk_run(image, &Given::default()) {
         Ok(desk) => desk.reading(),
         Err(refusal) => refused(refusal),
     }
 }
 
-/// The same with any requests, which are given after so many steps of the 1,000. If
-/// they are not 0, a third line has what is left of them. The last line tells of a
-/// trap that was caught, if the store does.
-pub fn desk_with(image: &[u8], requests: u16, after: u32) -> String {
-    let desk = match desk_run(image, requests, after) {
+/// What the caller of a reading gives besides the image.
+#[derive(Clone, Copy, Debug, Default)]
+pub struct Given {
+    /// By channel. Inputs that are not given are 0.
+    pub inputs: [Option<u16>; 16],
+    pub requests: u16,
+    /// After how many steps of the 1,000 the requests are given.
+    pub after: u32,
+}
+
+/// The same with what the caller gives. If the requests are not 0, a third line has
+/// what is left of them. A further line tells of a trap that was caught, if the store
+/// does, and the last ones tell which inputs the reading rested on.
+pub fn desk_with(image: &[u8], given: &Given) -> String {
+    let desk = match desk_run(image, given) {
         Ok(desk) => desk,
         Err(refusal) => return refused(refusal),
     };
     let mut text = desk.reading();
-    if requests != 0 {
+    if given.requests != 0 {
         text += &format!("requests {}\n", desk.answer.requests);
     }
     if let Some(told) = Told::by(&desk.store, desk.modules) {
         text += &told.to_string();
     }
-    text
+    text + &rests_on(desk.answer.channels, &given.inputs)
+}
+
+/// The lines that tell which inputs of a word of channels were given, and which were
+/// not.
+fn rests_on(channels: u16, inputs: &[Option<u16>; 16]) -> String {
+    let line = |title: &str, is_given: bool| {
+        let read = (0..16).filter(|channel| channels >> channel & 1 != 0);
+        let right = read.filter(|&channel| inputs[channel].is_some() == is_given);
+        let value = |channel: usize| format!(" {channel}={}", inputs[channel].unwrap_or_default());
+        match right.map(value).collect::<String>() {
+            values if values.is_empty() => values,
+            values => format!("{title}:{values}\n"),
+        }
+    };
+    match channels {
+        0 => "rests on no inputs\n".into(),
+        _ => {
+            line("rests on inputs given", true) + &line("rests on a guess, inputs not given", false)
+        }
+    }
 }
 
 fn refused(refusal: u8) -> String {
@@ -272,7 +305,7 @@ impl fmt::Display for Told {
 }
 
 /// The desk's run, or the first refusal.
-fn desk_run(image: &[u8], requests: u16, after: u32) -> Result<Desk, u8> {
+fn desk_run(image: &[u8], given: &Given) -> Result<Desk, u8> {
     const WORDS: usize = 4_096;
     const STEPS: u32 = 1_000;
     const ENTRIES: usize = 16_384;
@@ -286,17 +319,19 @@ fn desk_run(image: &[u8], requests: u16, after: u32) -> Result<Desk, u8> {
     let (refusal, machine) = start(image, &mut store);
     accepted(refusal)?;
     let mut outputs = [0; 16];
+    let inputs = given.inputs.map(Option::unwrap_or_default);
     let run = |machine, requests, n| {
         let buffers = Buffers {
             image,
             map: &map,
             store: &mut store,
             outputs: &mut outputs,
-            inputs: &[0; 16],
+            inputs: &inputs,
         };
         run(machine, buffers, requests, n)
     };
-    let answer = run_after(machine, requests, after.min(STEPS), STEPS, run);
+    let after = given.after.min(STEPS);
+    let answer = run_after(machine, given.requests, after, STEPS, run);
     match answer.number {
         number::SPENT.. => Ok(Desk {
             answer,
@@ -310,7 +345,7 @@ fn desk_run(image: &[u8], requests: u16, after: u32) -> Result<Desk, u8> {
 
 /// A run of `after` steps without requests and, if it does not stop before, a run
 /// with them up to n steps in all. Requests that are never given are left as they
-/// are.
+/// are. A.9: "the two channel words are united".
 fn run_after(
     machine: Machine,
     requests: u16,
@@ -325,6 +360,7 @@ fn run_after(
     let second = run(first.machine, requests, n - after);
     RunAnswer {
         count: first.count + second.count,
+        channels: first.channels | second.channels,
         ..second
     }
 }

@@ -119,8 +119,9 @@ pub struct RunOutcome {
     pub after: Vec<u16>,
     pub answer: RunAnswer,
     pub outputs: Vec<u16>,
-    /// The traps that were caught, in their order.
+    /// The traps that were caught, and the READs that were completed, in their order.
     pub caught: Vec<Caught>,
+    pub reads: Vec<Read>,
 }
 
 /// A trap that was caught.
@@ -135,6 +136,19 @@ pub struct Caught {
     /// How many steps the run had made before, and the lines among them.
     pub count: u32,
     pub behind: u16,
+}
+
+/// A READ that was completed.
+#[derive(Clone, Copy, Debug, PartialEq, Eq)]
+pub struct Read {
+    pub module: u8,
+    pub channel: u16,
+    pub address: u16,
+    /// How many steps the run had made before, the lines and the number of caught
+    /// traps among them.
+    pub count: u32,
+    pub behind: u16,
+    pub traps: usize,
 }
 
 impl RunOutcome {
@@ -184,10 +198,11 @@ impl RunOutcome {
     }
 }
 
-/// Hands on what it sees, and keeps the traps that are caught.
+/// Hands on what it sees, and keeps the traps that are caught and the READs.
 struct Keeping<'a, O> {
     observer: &'a mut O,
     caught: Vec<Caught>,
+    reads: Vec<Read>,
     /// The steps so far, and the lines among them.
     count: u32,
     taken: u16,
@@ -197,6 +212,18 @@ impl<O: Observer> Observer for Keeping<'_, O> {
     fn done(&mut self, opcode: u8) {
         self.count += 1;
         self.observer.done(opcode);
+    }
+
+    fn read(&mut self, module: u8, channel: u16, address: u16) {
+        self.reads.push(Read {
+            module,
+            channel,
+            address,
+            count: self.count,
+            behind: self.taken,
+            traps: self.caught.len(),
+        });
+        self.observer.read(module, channel, address);
     }
 
     fn taken(&mut self, line: u8) {
@@ -252,11 +279,12 @@ pub fn replay<O: Observer>(case: &Case, observer: &mut O) -> Outcome {
         let mut keeping = Keeping {
             observer: &mut *observer,
             caught: Vec::new(),
+            reads: Vec::new(),
             count: 0,
             taken: 0,
         };
         let answer = api::run_observed(handed, buffers, requests, run.budget, &mut keeping);
-        let caught = keeping.caught;
+        let Keeping { caught, reads, .. } = keeping;
         (machine, left) = (answer.machine, answer.requests);
         outcome.runs.push(RunOutcome {
             handed,
@@ -266,6 +294,7 @@ pub fn replay<O: Observer>(case: &Case, observer: &mut O) -> Outcome {
             answer,
             outputs: outputs.clone(),
             caught,
+            reads,
         });
     }
     outcome
@@ -357,11 +386,12 @@ impl fmt::Display for Outcome {
             let answer = &run.answer;
             writeln!(
                 f,
-                "run {} code {} count {} requests {} {} outputs{} store {}",
+                "run {} code {} count {} requests {} channels {} {} outputs{} store {}",
                 answer.number,
                 answer.code,
                 answer.count,
                 answer.requests,
+                answer.channels,
                 MachineText(&answer.machine),
                 Words(&run.outputs),
                 Checksum::of(&run.after),

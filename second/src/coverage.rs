@@ -1,9 +1,11 @@
 //! What generated cases reach: opcodes, traps of opcodes, refusals, what A.2
 //! makes of result counts, what A.3 makes of code that is not whole, what
 //! collides in transfers, what A.5 makes of saved depths, what A.6 makes of
-//! unsigned results, what A.7 makes of lines, and what A.8 makes of traps.
+//! unsigned results, what A.7 makes of lines, what A.8 makes of traps, and what A.9
+//! makes of READs.
 
 use crate::case::{replay, Case};
+use crate::channels::Channels;
 use crate::exec::Observer;
 use crate::image::parse;
 use crate::lent::LentMaps;
@@ -42,6 +44,7 @@ pub struct Coverage {
     clock_lines: ClockLines,
     requests: Requests,
     traps: Traps,
+    channels: Channels,
     cases: u64,
 }
 
@@ -77,6 +80,8 @@ impl Observer for Steps {
     fn done(&mut self, opcode: u8) {
         self.opcodes[usize::from(opcode)] += 1;
     }
+
+    fn read(&mut self, _: u8, _: u16, _: u16) {}
 
     fn taken(&mut self, line: u8) {
         self.lines[usize::from(line)] += 1;
@@ -168,6 +173,7 @@ impl Coverage {
             clock_lines: ClockLines::default(),
             requests: Requests::default(),
             traps: Traps::default(),
+            channels: Channels::default(),
             cases: 0,
         };
         cases.for_each(|case| coverage.add(&case));
@@ -188,6 +194,7 @@ impl Coverage {
         self.clock_lines.add(case, &outcome);
         self.requests.add(case, &outcome);
         self.traps.add(case, &outcome);
+        self.channels.add(case, &outcome);
         for run in outcome.runs {
             let answer = run.answer;
             match answer.number {
@@ -257,7 +264,7 @@ impl Coverage {
         faults
     }
 
-    /// What was reached of A.2, of A.3, of transfers, and of A.5 to A.8.
+    /// What was reached of A.2, of A.3, of transfers, and of A.5 to A.9.
     fn kinds(&self) -> impl Iterator<Item = Reached> {
         let mut lines = self.results.reached();
         lines.extend(self.whole.reached());
@@ -268,6 +275,7 @@ impl Coverage {
         lines.extend(self.clock_lines.reached());
         lines.extend(self.requests.reached());
         lines.extend(self.traps.reached());
+        lines.extend(self.channels.reached());
         lines.into_iter()
     }
 

@@ -24,6 +24,8 @@ pub struct Lent<'a> {
 pub trait Observer {
     /// An instruction is done.
     fn done(&mut self, opcode: u8);
+    /// It is a READ of this module: which channel it took, and to which address.
+    fn read(&mut self, module: u8, channel: u16, address: u16);
     /// A line is taken.
     fn taken(&mut self, line: u8);
     /// A trap is caught: of the instruction, or of the line that failed. These are
@@ -35,6 +37,9 @@ pub trait Observer {
 impl Observer for () {
     #[inline(always)]
     fn done(&mut self, _: u8) {}
+
+    #[inline(always)]
+    fn read(&mut self, _: u8, _: u16, _: u16) {}
 
     #[inline(always)]
     fn taken(&mut self, _: u8) {}
@@ -68,7 +73,7 @@ impl<'a> Here<'a> {
 /// Steps until a stop that is no trap, or a trap that is not caught. A.8: a trap that
 /// is caught "counts as a step", and the run goes on. It comes before n steps are
 /// done, so that one is left for it. The code of 40 is lost, and the bit of a line
-/// that failed is kept.
+/// that failed is kept. The channels are those of all READs of the run.
 pub fn execute<O: Observer>(
     program: &Program,
     mut lent: Lent,
@@ -77,7 +82,8 @@ pub fn execute<O: Observer>(
     n: u32,
     observer: &mut O,
 ) -> RunAnswer {
-    let mut answer = until_stop(program, &mut lent, machine, requests, n, observer);
+    let channels = &mut 0;
+    let mut answer = until_stop(program, &mut lent, machine, requests, n, channels, observer);
     loop {
         let line = answer.failed_line(lent.store);
         let Some(resumed) = catch_trap(program, lent.map, lent.store, &answer) else {
@@ -86,7 +92,7 @@ pub fn execute<O: Observer>(
         observer.caught(answer.number, line, &answer.machine, &resumed);
         let count = answer.count + 1;
         let (left, n) = (answer.requests, n - count);
-        answer = until_stop(program, &mut lent, resumed, left, n, observer);
+        answer = until_stop(program, &mut lent, resumed, left, n, channels, observer);
         answer.count += count;
     }
 }
@@ -94,7 +100,8 @@ pub fn execute<O: Observer>(
 /// Steps until a stop: 30 after n steps, 31 at the end, or a trap. A line that is
 /// open comes before the instruction, also before an end or a trap. "A trap or
 /// an end leaves everything as before its instruction", so every arm below
-/// stops before it alters anything. Not inlined: the loop wants all registers.
+/// stops before it alters anything. The channels of its READs are added to the word
+/// of the run. Not inlined: the loop wants all registers.
 #[inline(never)]
 fn until_stop<O: Observer>(
     program: &Program,
@@ -102,6 +109,7 @@ fn until_stop<O: Observer>(
     machine: Machine,
     mut requests: u16,
     n: u32,
+    channels: &mut u16,
     observer: &mut O,
 ) -> RunAnswer {
     let &mut Lent {
@@ -574,14 +582,18 @@ fn until_stop<O: Observer>(
 
             // "240: a channel, c address: the store word becomes that input.
             // 241: output channel c becomes a. Channel above 15 is 39, before
-            // 32. 304: trap 40 with code a."
+            // 32. 304: trap 40 with code a." A.9: "bit i set exactly when a
+            // completed READ took input channel i".
             0o240 => {
-                let Some(&input) = inputs.get(usize::from(word!(1))) else {
+                let (channel, address) = (word!(1), word!(2));
+                let Some(&input) = inputs.get(usize::from(channel)) else {
                     break (number::CHANNEL, 0);
                 };
-                *at!(word!(2), 0u8) = input;
+                *at!(address, 0u8) = input;
+                *channels |= 1 << channel;
                 depth -= 2;
                 pc += 1;
+                observer.read(module, channel, address);
             }
             0o241 => {
                 let Some(output) = outputs.get_mut(usize::from(word!(2))) else {
@@ -716,6 +728,7 @@ fn until_stop<O: Observer>(
         code,
         count: n - left,
         requests,
+        channels: *channels,
         machine: gather!(),
     }
 }

@@ -1,5 +1,5 @@
 //! A second interpreter of M-code, written from the paper and its change
-//! requests A.1 to A.8 alone, against which another engine is compared.
+//! requests A.1 to A.9 alone, against which another engine is compared.
 //!
 //! [`load`], [`start`] and [`run`] are the paper's calls, [`desk`] is its "A
 //! whole reading". Octal literals are the paper's opcodes, and quotations in
@@ -10,6 +10,7 @@
 pub mod api;
 pub mod assemble;
 pub mod case;
+pub mod channels;
 pub mod collisions;
 pub mod coverage;
 pub mod depths;
@@ -33,5 +34,5 @@ pub mod unsigned;
 pub mod walk;
 pub mod whole;
 
-pub use api::{desk, desk_with, load, run, start, LoadAnswer, RunAnswer};
+pub use api::{desk, desk_with, load, run, start, Given, LoadAnswer, RunAnswer};
 pub use machine::Machine;

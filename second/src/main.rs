@@ -4,7 +4,7 @@ use second::api::Buffers;
 use second::assemble::{encode, Source};
 use second::image::parse;
 use second::walk::{first_fault, Fault};
-use second::{case, coverage::Coverage, gen, load, number};
+use second::{case, coverage::Coverage, gen, load, number, Given};
 use std::ffi::{OsStr, OsString};
 use std::fmt::Display;
 use std::fs::File;
@@ -16,11 +16,12 @@ use std::time::Instant;
 const HELP: &str = "\
 A second interpreter of M-code.
 
-usage: second reading [--requests WORD] [--after N] [FILE]
+usage: second reading [--input CH=VALUE].. [--requests WORD] [--after N] [FILE]
            print the desk's reading of an image, from FILE or standard input;
            with a word of requests that is not 0, which is given after N
-           steps, also what is left of it; and where the store tells of a
-           caught trap, its number, its process, its module and its position
+           steps, also what is left of it; where the store tells of a caught
+           trap, its number, its process, its module and its position; and
+           which inputs it rests on: those given, and those not given
        second map FILE
            print load's number; for 13 also the module, the position and the
            cause; and if it accepts, the map in hex, eight digits an entry:
@@ -30,7 +31,7 @@ usage: second reading [--requests WORD] [--after N] [FILE]
        second coverage [--small] [--seed N] [--cases N]
            replay generated cases and print what they reach; exit 1 if an
            opcode, a stop, a refusal, a collision of a transfer or a kind of
-           A.2, A.3, A.5, A.6, A.7 or A.8 is missing
+           A.2, A.3 or A.5 to A.9 is missing
        second coverage CASES
            the same for the cases of a file
        second cases [--small] [--seed N] [--count N] OUT
@@ -42,10 +43,11 @@ usage: second reading [--requests WORD] [--after N] [FILE]
        second --help
            print this
 
-N is a decimal number, WORD one of 0 to 65535. WORD is 0 unless given, the N of
---after 0 and at most 4294967295. Seeds are 1 unless given, cases 2000. With
---small most cases have small images and few runs, and a few have the largest
-sizes.
+N is a decimal number, WORD and VALUE one of 0 to 65535, CH a channel of 0 to 15.
+WORD is 0 unless given, and so is each input; of two inputs of a channel the last
+one holds. The N of --after is 0 unless given and at most 4294967295. Seeds are 1
+unless given, cases 2000. With --small most cases have small images and few runs,
+and a few have the largest sizes.
 Exit status: 0, or 1 where coverage misses something, or 2 after an error.
 ";
 
@@ -120,12 +122,16 @@ fn read_image(from: impl Read, name: &str) -> Result<Vec<u8>, String> {
 
 /// The desk's reading of the image that is named, or of standard input.
 fn reading(arguments: &[OsString]) -> Answer {
-    let (mut requests, mut after) = (0, 0);
+    let mut given = Given::default();
     let mut files = arguments;
     while let [option, rest @ ..] = files {
         match option.to_str() {
-            Some("--requests") => requests = limited("--requests", rest.first(), u16::MAX)?,
-            Some("--after") => after = limited("--after", rest.first(), u32::MAX)?,
+            Some("--input") => {
+                let (channel, value) = input(rest.first())?;
+                given.inputs[channel] = Some(value);
+            }
+            Some("--requests") => given.requests = limited("--requests", rest.first(), u16::MAX)?,
+            Some("--after") => given.after = limited("--after", rest.first(), u32::MAX)?,
             _ => break,
         }
         files = &rest[1..];
@@ -135,18 +141,30 @@ fn reading(arguments: &[OsString]) -> Answer {
         [file] => read_image(open(file)?, &name_of(file))?,
         _ => return wrong_number("reading".as_ref()),
     };
-    print(&second::desk_with(&image, requests, after))
+    print(&second::desk_with(&image, &given))
 }
 
-/// The value of an option: digits alone, of a number up to the type's last.
+/// The channel and the value of an input.
+fn input(value: Option<&OsString>) -> Result<(usize, u16), String> {
+    let pair = value.and_then(|value| value.to_str()?.split_once('='));
+    let pair = pair.and_then(|(channel, value)| Some((decimal(channel)?, decimal(value)?)));
+    pair.filter(|&(channel, _)| channel < 16)
+        .ok_or_else(|| "--input needs CH=VALUE, 0 to 15 and 0 to 65535".into())
+}
+
+/// Digits alone, of a number that the type holds.
+fn decimal<T: FromStr>(text: &str) -> Option<T> {
+    let is_digits = text.bytes().all(|byte| byte.is_ascii_digit());
+    text.parse().ok().filter(|_| is_digits)
+}
+
+/// The value of an option: a number up to the type's last.
 fn limited<T: FromStr + Display>(
     option: &str,
     value: Option<&OsString>,
     last: T,
 ) -> Result<T, String> {
-    let digits = |value: &&str| value.bytes().all(|byte| byte.is_ascii_digit());
-    let value = value.and_then(|value| value.to_str()).filter(digits);
-    let value = value.and_then(|value| value.parse().ok());
+    let value = value.and_then(|value| decimal(value.to_str()?));
     value.ok_or_else(|| format!("{option} needs a decimal number of 0 to {last}"))
 }
 

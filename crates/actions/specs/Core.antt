@@ -1,9 +1,10 @@
 -- The registers as the stepping loop holds them, and how what it leaves is what mcode defines.
 use mathlib.Core.Path.{_≡_}
-use Prim.Native.Nat.{ℕ, _+_, _-_, _≤_}
+use Prim.Native.Nat.{ℕ, _+_, _-_, _^_, _≤_}
 use mathlib.Core.List.{List}
 use lib.ListN.{getD}
 use lib.Dec.{eqb}
+use lib.Bits.{bitOr}
 use Rattle.mcode.specs.Word.{pick}
 use Rattle.mcode.specs.Image.{basesOf}
 use Rattle.mcode.specs.Machine.{State, state, Outcome, go, halt, position, machine, pairAt, stopNumber, stopCode}
@@ -75,6 +76,14 @@ spentOp = 0o340
 unfoldable pub performed : Lent → ℕ → (ℕ → ℕ) → Core → List ℕ → List ℕ → List ℕ → Left
 performed lent op o r stack store out =
     pick (eqb op spentOp) (record { stop = 30; code = 0; state = held r stack store out }) (instruction lent op o r stack store out)
+
+-- the bit of the channel that an instruction takes if it is completed: a READ, 240, takes channel a
+abbrev pub readAt : ℕ → Core → List ℕ → ℕ
+readAt op r stack = pick (eqb op 0o240) (2 ^ getD stack (r .depth - 1) 0) 0
+
+-- the word of channels behind an instruction that ended so (0: completed) and takes these bits
+abbrev pub unites : ℕ → ℕ → ℕ → ℕ
+unites stop w bits = pick (eqb stop 0) (bitOr w bits) w
 
 -- the module stays, and the place in its code
 pub record Stays (r q : Core) : Type 0 where

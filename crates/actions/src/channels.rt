@@ -11,12 +11,19 @@ ghost use Prim.Native.Nat.{ℕ, _≤_, _<_};
 ghost use lib.ListN.{length};
 ghost use Rattle.mcode.specs.Step.{Lent};
 ghost use Rattle.mcode.specs.Decode as Act;
-ghost use Rattle.actions.specs.Core.{result, acted, Stays};
+ghost use Rattle.actions.specs.Core.{result, acted, readAt, unites, Stays};
 
-// The store word at c becomes input a: 240.
-pub fn read(r: Core, stack: &mut [u16; 16], store: &mut [u16], inputs: &[u16], to: usize) -> Stepped
+// The store word at c becomes input a, and channel a is in the word of those taken: 240.
+pub fn read(
+    r: Core,
+    stack: &mut [u16; 16],
+    store: &mut [u16],
+    inputs: &[u16],
+    taken: &mut u16,
+    to: usize,
+) -> Stepped
     requires { ⌜ (1 < r .depth) × (r .depth ≤ 16) × (length (now inputs) ≡ 16) × (r .start ≤ to) ⌝ }
-    ensures { λ q. ⌜ ((lent : Lent) → lent .inputs ≡ now (inputs .entry) → (out : List ℕ) → result q (now (stack .exit)) (now (store .exit)) out ≡ acted lent Act.Read to r (now (stack .entry)) (now (store .entry)) out) × Stays r (q .core) ⌝ }
+    ensures { λ q. ⌜ (now (taken .exit) ≡ unites (q .stop) (now (taken .entry)) (readAt 0o240 r (now (stack .entry)))) × ((lent : Lent) → lent .inputs ≡ now (inputs .entry) → (out : List ℕ) → result q (now (stack .exit)) (now (store .exit)) out ≡ acted lent Act.Read to r (now (stack .entry)) (now (store .entry)) out) × Stays r (q .core) ⌝ }
 {
     let a = top_of(r, stack) as usize;
     let i = second_of(r, stack) as usize;
@@ -25,6 +32,7 @@ pub fn read(r: Core, stack: &mut [u16; 16], store: &mut [u16], inputs: &[u16], t
     }
     if i < store.len() {
         store[i] = inputs[a];
+        *taken = *taken | (1u16 << (a as u16));
         take_two(r, stack, to)
     } else {
         trapped(r, 32)

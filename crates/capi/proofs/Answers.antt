@@ -11,8 +11,8 @@ use Rattle.mcode.specs.Word.{pick, and}
 use Rattle.mcode.specs.Image.{parse}
 use Rattle.mcode.specs.Depths.{mapFits}
 use Rattle.mcode.specs.Machine.{State, Live, state, live, machine, zeroMachine, isMachine}
-use Rattle.mcode.specs.Step.{stepOf}
-use Rattle.mcode.specs.Run.{Started, RunLeft, refused, stopped, storeFits, lentTo, runN, runRefusal, runOf, startRefusal, startMachine, startStore, startOf}
+use Rattle.mcode.specs.Step.{stepOf, stepRead}
+use Rattle.mcode.specs.Run.{Started, RunEnd, RunLeft, refused, stopped, storeFits, lentTo, runN, tally, stepTally, runRefusal, runOf, startRefusal, startMachine, startStore, startOf}
 use Rattle.mcode.specs.declared.Ending.{Ending}
 use Rattle.mcode.specs.declared.Ending.the-variants.{Refused, Stopped}
 use Rattle.mcode.specs.declared.Stop.{Stop}
@@ -20,6 +20,7 @@ use Rattle.mcode.proofs.Reader.{told}
 use Rattle.mcode.proofs.Refusals.{accepted}
 use Rattle.mcode.proofs.Standing.{good-of}
 use Rattle.mcode.proofs.Points.{points}
+use Rattle.mcode.proofs.Tallies.{plain}
 use Rattle.capi.specs.Words.{registersIn, moduleNumber, machineOf, machineFrom}
 use Rattle.capi.specs.Answers.{runSays}
 
@@ -51,14 +52,15 @@ stop-depth image map inputs n x r k e = subst (λ (y : RunLeft). y .ending ≡ S
     no = refused (runRefusal image map inputs (x .state)) x
 
     yes : RunLeft
-    yes = stopped (runN (stepOf (lentTo image map inputs)) n x)
+    yes = stopped (runN (stepTally (lentTo image map inputs)) n (tally x 0))
 
     go : (t : Bool) → leb 1 (runRefusal image map inputs (x .state)) ≡ t → pick t no yes .ending ≡ Stopped k → pick t no yes .state .state .machine .registers .depth ≤ 16
     go true f z = absurd (false≢true (sym (ap is-refused z)))
     go false f z =
         let (L, h, i) = accepted image map inputs (x .state) f in
         let g = good-of (parse image .program) map (length (x .state .store)) (x .state .machine) (h .machine) in
-        points image map (L .fit) inputs (length (x .state .store)) n x (record { good = g; sized = refl; outs = h .outs }) .1 .good .at .few
+        let p = points image map (L .fit) inputs (length (x .state .store)) n x (record { good = g; sized = refl; outs = h .outs }) .1 .good .at .few in
+        subst (λ (d : RunEnd Live). d .state .state .machine .registers .depth ≤ 16) (sym (plain (stepOf (lentTo image map inputs)) (stepRead (lentTo image map inputs)) n x 0)) p
 
 -- ---- modules that no image has
 
@@ -120,5 +122,5 @@ module _ (image map inputs : List ℕ) (n w : ℕ) (words store outputs : List �
       go false e = refl
 
   pub run-says : (r : RunLeft) (e : Ending) → r ≡ runOf image map inputs n (live (state (machineFrom words) store outputs) w) → r .ending ≡ e
-      → runSays words (record { ending = e; count = r .count; state = r .state }) ≡ runSays words (runOf image map inputs n (live (state (machineOf words) store outputs) w))
-  run-says r e q z = sym (ap (λ (d : Ending). runSays words (record { ending = d; count = r .count; state = r .state })) z) ∙ ap (runSays words) q ∙ same
+      → runSays words (record { ending = e; count = r .count; state = r .state; channels = r .channels }) ≡ runSays words (runOf image map inputs n (live (state (machineOf words) store outputs) w))
+  run-says r e q z = sym (ap (λ (d : Ending). runSays words (record { ending = d; count = r .count; state = r .state; channels = r .channels })) z) ∙ ap (runSays words) q ∙ same

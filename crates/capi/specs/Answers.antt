@@ -13,7 +13,7 @@ use Rattle.mcode.specs.declared.Ending.{Ending}
 use Rattle.mcode.specs.declared.Ending.the-variants.{Refused, Stopped}
 use Rattle.capi.specs.Words.{wordsOf, machineOf}
 
--- the answer to a place that is not 2 words, a machine that is not 24 words, or an answer that is not 3 numbers: nothing is changed
+-- the answer to a place that is not 2 words, a machine that is not 24 words, or an answer that is not 4 numbers: nothing is changed
 abbrev pub wrongLength : ℕ
 wrongLength = 20
 
@@ -63,13 +63,13 @@ abbrev pub wordsLeft : Ending → List ℕ → Machine → List ℕ
 wordsLeft (Refused k) words m = words
 wordsLeft (Stopped k) words m = wordsOf m
 
--- the number, the words, and the count, the code and the requests left of what a run answers and leaves
+-- the number, the words, and the count, the code, the requests left and the channels of what a run answers and leaves
 abbrev pub runSays : List ℕ → RunLeft → RunAnswer
 runSays words e =
-    runLeft (endingNumber (e .ending)) (wordsLeft (e .ending) words (e .state .state .machine)) (e .state .state .store) (e .state .state .outputs) (e .count ∷ endingCode (e .ending) ∷ e .state .requests ∷ [])
+    runLeft (endingNumber (e .ending)) (wordsLeft (e .ending) words (e .state .state .machine)) (e .state .state .store) (e .state .state .outputs) (e .count ∷ endingCode (e .ending) ∷ e .state .requests ∷ e .channels ∷ [])
 
 unfoldable pub runWords : List ℕ → List ℕ → List ℕ → ℕ → ℕ → List ℕ → List ℕ → List ℕ → List ℕ → RunAnswer
 runWords image map inputs n requests machine store outputs answer =
-    pick (and (eqb (length machine) 24) (eqb (length answer) 3))
+    pick (and (eqb (length machine) 24) (eqb (length answer) 4))
     (runSays machine (runOf image map inputs n (live (state (machineOf machine) store outputs) requests)))
     (runLeft wrongLength machine store outputs answer)

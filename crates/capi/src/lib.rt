@@ -40,9 +40,9 @@ pub extern "C" fn cembuxola_start(image: &[u8], store: &mut [u16], machine: &mut
     started.number
 }
 
-// The number of the refusal, 1 to 7 or 9 to 12, or of the stop, 30 to 40; the count, the code and what is left of the requests in answer.
-// The machine's words stay as they were where run refuses, and the requests. 20 where the machine is not 24 words or the answer not 3
-// numbers, and then nothing is changed.
+// The number of the refusal, 1 to 7 or 9 to 12, or of the stop, 30 to 40; in answer the count, the code, what is left of the requests and
+// the word of the channels that the run's READs took. Where run refuses, the machine's words and the requests stay as they were, and no
+// channel is in the word. 20 where the machine is not 24 words or the answer not 4 numbers, and then nothing is changed.
 #[no_mangle]
 pub extern "C" fn cembuxola_run(
     machine: &mut [u16],
@@ -60,7 +60,7 @@ pub extern "C" fn cembuxola_run(
     if machine.len() != 24 {
         return 20;
     }
-    if answer.len() != 3 {
+    if answer.len() != 4 {
         return 20;
     }
     let before = unpack(machine);
@@ -68,13 +68,19 @@ pub extern "C" fn cembuxola_run(
     let ending = ran.ending;
     match ending {
         Ending::Refused(number) => {
-            put_answer(answer, ran.count, 0, ran.requests);
+            put_answer(answer, ran.count, 0, ran.requests, ran.channels);
             number
         }
         Ending::Stopped(stop) => {
             let after = ran.machine;
             pack(machine, after);
-            put_answer(answer, ran.count, mcode::stop_code(stop), ran.requests);
+            put_answer(
+                answer,
+                ran.count,
+                mcode::stop_code(stop),
+                ran.requests,
+                ran.channels,
+            );
             mcode::stop_number(stop)
         }
     }

@@ -101,12 +101,13 @@ pub fn pack(words: &mut [u16], machine: Machine)
     put_stack(words, stack);
 }
 
-// The count and the code.
-pub fn put_answer(answer: &mut [u32], count: u32, code: u16, requests: u16)
-    requires { ⌜ length (now answer) ≡ 3 ⌝ }
-    ensures { λ _. ⌜ now (answer .exit) ≡ count ∷ code ∷ requests ∷ [] ⌝ }
+// The count, the code, the requests and the channels.
+pub fn put_answer(answer: &mut [u32], count: u32, code: u16, requests: u16, channels: u16)
+    requires { ⌜ length (now answer) ≡ 4 ⌝ }
+    ensures { λ _. ⌜ now (answer .exit) ≡ count ∷ code ∷ requests ∷ channels ∷ [] ⌝ }
 {
     answer[0] = count;
     answer[1] = code as u32;
     answer[2] = requests as u32;
+    answer[3] = channels as u32;
 }

@@ -11,7 +11,7 @@ use Rattle.console.specs.declared.arguments.Asked.{Asked}
 use Rattle.console.specs.Decimals.{allDigits, valueFrom, numberFrom, numberOf}
 use Rattle.console.specs.Choices.{sameText, placeOf, nameOf, hasValue, valueOf, kindOf, stepsOf, inputFrom, inputOf, storeOf, requestsOf, lineChoice, afterOf}
 use Rattle.console.specs.Asks.{nothingAsked, goesOn, endsWith, nameSays, withValue, valueSays, wordSays, awaits, textSays}
-use lib.ListN.{replicate}
+use lib.ListN.{set, replicate}
 
 -- `4294967295` and `4294967296`
 pub largest-number : numberOf (52 ∷ 50 ∷ 57 ∷ 52 ∷ 57 ∷ 54 ∷ 55 ∷ 50 ∷ 57 ∷ 53 ∷ []) ≡ Is 4294967295
@@ -114,7 +114,7 @@ unfolding kindOf sameText nameOf placeOf
 dash-with-equals = refl
 
 -- `--steps=5`, `--steps=` and `--steps`
-pub value-with-name : textSays nothingAsked (45 ∷ 45 ∷ 115 ∷ 116 ∷ 101 ∷ 112 ∷ 115 ∷ 61 ∷ 53 ∷ []) ≡ goesOn (record { steps = 5; store = 4096; inputs = replicate 16 0; requests = 0; after = 0 }) 0 Nothing
+pub value-with-name : textSays nothingAsked (45 ∷ 45 ∷ 115 ∷ 116 ∷ 101 ∷ 112 ∷ 115 ∷ 61 ∷ 53 ∷ []) ≡ goesOn (record { steps = 5; store = 4096; inputs = replicate 16 0; given = 0; requests = 0; after = 0 }) 0 Nothing
 unfolding textSays awaits wordSays nameSays valueSays withValue kindOf sameText hasValue nameOf valueOf placeOf stepsOf numberOf numberFrom allDigits valueFrom
 value-with-name = refl
 
@@ -125,6 +125,24 @@ empty-value = refl
 pub value-to-come : textSays nothingAsked (45 ∷ 45 ∷ 115 ∷ 116 ∷ 101 ∷ 112 ∷ 115 ∷ []) ≡ goesOn (nothingAsked .options) 0 Steps
 unfolding textSays awaits wordSays nameSays valueSays withValue kindOf sameText hasValue nameOf valueOf placeOf stepsOf numberOf numberFrom allDigits valueFrom
 value-to-come = refl
+
+-- `--input=3=7`: channel 3 is given, bit 3 of the word, and stays so behind `--input=0=0`, which gives channel 0
+abbrev cellText : List ℕ
+cellText = 45 ∷ 45 ∷ 105 ∷ 110 ∷ 112 ∷ 117 ∷ 116 ∷ 61 ∷ 51 ∷ 61 ∷ 55 ∷ []
+
+abbrev zeroText : List ℕ
+zeroText = 45 ∷ 45 ∷ 105 ∷ 110 ∷ 112 ∷ 117 ∷ 116 ∷ 61 ∷ 48 ∷ 61 ∷ 48 ∷ []
+
+abbrev withInputs : List ℕ → ℕ → Asked
+withInputs inputs w = goesOn (record { steps = 1000; store = 4096; inputs = inputs; given = w; requests = 0; after = 0 }) 0 Nothing
+
+pub input-given : textSays nothingAsked cellText ≡ withInputs (set (replicate 16 0) 3 7) 8
+unfolding textSays awaits wordSays nameSays valueSays withValue kindOf sameText hasValue nameOf valueOf placeOf inputOf inputFrom numberOf numberFrom allDigits valueFrom
+input-given = refl
+
+pub zero-given : textSays (textSays nothingAsked cellText) zeroText ≡ withInputs (set (replicate 16 0) 3 7) 9
+unfolding textSays awaits wordSays nameSays valueSays withValue kindOf sameText hasValue nameOf valueOf placeOf inputOf inputFrom numberOf numberFrom allDigits valueFrom
+zero-given = refl
 
 -- `--requests=257` and `--line=15`, in both orders, and `--line=8` that is in the word already: 32768 + 256 + 1
 abbrev wordText : List ℕ
@@ -137,7 +155,7 @@ abbrev firstText : List ℕ
 firstText = 45 ∷ 45 ∷ 108 ∷ 105 ∷ 110 ∷ 101 ∷ 61 ∷ 56 ∷ []
 
 abbrev comesAfter : ℕ → ℕ → Asked
-comesAfter w n = goesOn (record { steps = 1000; store = 4096; inputs = replicate 16 0; requests = w; after = n }) 0 Nothing
+comesAfter w n = goesOn (record { steps = 1000; store = 4096; inputs = replicate 16 0; given = 0; requests = w; after = n }) 0 Nothing
 
 abbrev withWord : ℕ → Asked
 withWord w = comesAfter w 0

@@ -5,7 +5,7 @@ use mathlib.Core.List.{List, [], _∷_}
 use lib.Bits.{bitOr}
 use lib.Dec.{eqb, leb, ltb}
 use lib.ListN.{length, getD, take, drop, set, replicate}
-use Rattle.mcode.specs.Word.{pick, and}
+use Rattle.mcode.specs.Word.{pick, and, bit}
 use Rattle.console.specs.Decimals.{numberOf}
 use Rattle.console.specs.declared.number.Number.{Number}
 use Rattle.console.specs.declared.number.Number.the-variants.{Is, Bad}
@@ -17,7 +17,7 @@ use Rattle.console.specs.declared.options.Choice.the-variants.{Steps, St
 
 -- "W = 4,096, inputs 0, outputs first 0, n = 1,000"; of the requests "The desk program gives 0"
 abbrev pub defaultOptions : Options
-defaultOptions = record { steps = 1000; store = 4096; inputs = replicate 16 0; requests = 0; after = 0 }
+defaultOptions = record { steps = 1000; store = 4096; inputs = replicate 16 0; given = 0; requests = 0; after = 0 }
 
 -- two texts are the same
 unfoldable pub sameText : List ℕ → List ℕ → Bool
@@ -129,22 +129,25 @@ afterFrom Bad = BadChoice
 unfoldable pub afterOf : List ℕ → Choice
 afterOf text = afterFrom (numberOf text)
 
--- line i stands in bit i of the word of requests, which has 16
-abbrev pub lineWeight : ℕ → ℕ
-lineWeight i = pick (ltb i 16) (2 ^ i) 0
+-- line i stands in bit i of the word of requests, input channel i in bit i of the word of those given: a word has 16
+abbrev pub bitWeight : ℕ → ℕ
+bitWeight i = pick (ltb i 16) (2 ^ i) 0
+
+abbrev pub bitAt : ℕ → ℕ → Bool
+bitAt w i = pick (ltb i 16) (bit w i) false
 
 -- the bits of a word, united with the requests so far
 abbrev pub withRequests : Options → ℕ → Options
-withRequests o w = record { steps = o .steps; store = o .store; inputs = o .inputs; requests = bitOr (o .requests) w; after = o .after }
+withRequests o w = record { steps = o .steps; store = o .store; inputs = o .inputs; given = o .given; requests = bitOr (o .requests) w; after = o .after }
 
--- the field that a choice sets, to what it says; a later one wins. Requests and lines are united.
+-- the field that a choice sets, to what it says; a later one wins. Requests and lines are united, and so are the channels that are given.
 abbrev pub withChoice : Options → Choice → Options
-withChoice o (Steps n) = record { steps = n; store = o .store; inputs = o .inputs; requests = o .requests; after = o .after }
-withChoice o (Store w) = record { steps = o .steps; store = w; inputs = o .inputs; requests = o .requests; after = o .after }
-withChoice o (Input c v) = record { steps = o .steps; store = o .store; inputs = set (o .inputs) c v; requests = o .requests; after = o .after }
+withChoice o (Steps n) = record { steps = n; store = o .store; inputs = o .inputs; given = o .given; requests = o .requests; after = o .after }
+withChoice o (Store w) = record { steps = o .steps; store = w; inputs = o .inputs; given = o .given; requests = o .requests; after = o .after }
+withChoice o (Input c v) = record { steps = o .steps; store = o .store; inputs = set (o .inputs) c v; given = bitOr (o .given) (bitWeight c); requests = o .requests; after = o .after }
 withChoice o (Requests w) = withRequests o w
-withChoice o (Line i) = withRequests o (lineWeight i)
-withChoice o (After n) = record { steps = o .steps; store = o .store; inputs = o .inputs; requests = o .requests; after = n }
+withChoice o (Line i) = withRequests o (bitWeight i)
+withChoice o (After n) = record { steps = o .steps; store = o .store; inputs = o .inputs; given = o .given; requests = o .requests; after = n }
 withChoice o BadChoice = o
 
 -- the requests come after so many steps: all of them where there are none

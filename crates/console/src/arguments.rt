@@ -1,11 +1,10 @@
-// What the arguments of a program ask together. They are judged one after another, before any file is read; the first bad one ends
+// What the arguments of a program ask together. A program judges them one after another, before any file is read; the first bad one ends
 // it, with a line on standard error that names it and says what is allowed.
 use crate::options;
 use crate::options::Argument;
 use crate::options::Choice;
 use crate::options::Options;
 use crate::print;
-use libc::STDERR_FILENO;
 ghost use mathlib.Core.Path.{_≡_};
 ghost use Rattle.console.specs.Asks.{nothingAsked, goesOn, endsWith, oneMore, isBad, withValue, nameSays, valueSays, wordSays, awaits, textSays, wholeOf};
 
@@ -42,7 +41,7 @@ fn going_on(options: Options, files: usize, awaited: Awaited) -> Asked
     }
 }
 
-fn ended(asked: Asked, help: bool) -> Asked
+pub fn ended(asked: Asked, help: bool) -> Asked
     ensures { λ r. ⌜ r ≡ endsWith asked help ⌝ }
 {
     let options = asked.options;
@@ -259,35 +258,4 @@ pub fn whole(program: &[u8], asked: Asked) -> Asked
             ended(asked, false)
         }
     }
-}
-
-// Argument i. One that is too long for the buffer is bad.
-fn with_argument(program: &[u8], asked: Asked, i: usize) -> Asked {
-    let mut text = io::buffer();
-    let n = os::arg(i, &mut text);
-    if os::errno() != 0 {
-        io::write_all(STDERR_FILENO, program);
-        print::number(STDERR_FILENO, b": argument ", i as u64);
-        io::write_all(STDERR_FILENO, b": longer than 4096 bytes\n");
-        return ended(asked, false);
-    }
-    with_text(program, asked, &text[..n])
-}
-
-// All arguments of the program.
-pub fn gathered(program: &[u8]) -> Asked {
-    let count = os::arg_count();
-    let mut asked = begun();
-    let mut i: usize = 1;
-    while i < count {
-        asked = with_argument(program, asked, i);
-        if asked.help {
-            return asked;
-        }
-        if asked.bad {
-            return asked;
-        }
-        i += 1;
-    }
-    whole(program, asked)
 }

@@ -6,17 +6,19 @@ use mcode::Stop;
 ghost use mathlib.Core.Path.{_≡_};
 ghost use lib.ListN.{length, set};
 ghost use Prim.Native.Nat.{_≤_};
-ghost use Rattle.console.specs.Choices.{defaultOptions, sameText, kindOf, stepsOf, storeOf, placeOf, nameOf, hasValue, valueOf, inputFrom, inputOf, requestsOf, lineChoice, afterOf, lineWeight, withRequests, withChoice, quietSteps};
+ghost use Rattle.console.specs.Choices.{defaultOptions, sameText, kindOf, stepsOf, storeOf, placeOf, nameOf, hasValue, valueOf, inputFrom, inputOf, requestsOf, lineChoice, afterOf, bitWeight, withRequests, withChoice, quietSteps};
 
+// `given` has bit i where input channel i was given; the others are left at 0.
 pub struct Options {
     pub steps: u32,
     pub store: usize,
     pub inputs: [u16; 16],
+    pub given: u16,
     pub requests: u16,
     pub after: u32,
 }
 
-// The reading of the paper: n = 1,000, W = 4,096, inputs 0, no requests; those that there are come at once.
+// The reading of the paper: n = 1,000, W = 4,096, inputs 0, none of them given, no requests; those that there are come at once.
 pub fn defaults() -> Options
     ensures { λ r. ⌜ r ≡ defaultOptions ⌝ }
 {
@@ -25,6 +27,7 @@ pub fn defaults() -> Options
         steps: 1000,
         store: 4096,
         inputs,
+        given: 0,
         requests: 0,
         after: 0,
     }
@@ -244,7 +247,7 @@ pub fn after(text: &[u8]) -> Choice
 }
 
 // The inputs with one of them set; there is none above 15.
-fn with_input(from: [u16; 16], channel: u8, value: u16) -> [u16; 16]
+pub fn with_input(from: [u16; 16], channel: u8, value: u16) -> [u16; 16]
     ensures { λ r. ⌜ r ≡ set from channel value ⌝ }
 {
     let mut inputs = from;
@@ -256,9 +259,9 @@ fn with_input(from: [u16; 16], channel: u8, value: u16) -> [u16; 16]
     inputs
 }
 
-// The word with the bit of line i; there is none above 15.
+// The word with bit i, of a line or of a channel; there is none above 15.
 fn weight(i: u8) -> u16
-    ensures { λ r. ⌜ r ≡ lineWeight i ⌝ }
+    ensures { λ r. ⌜ r ≡ bitWeight i ⌝ }
 {
     if i < 16 { 1 << (i as u16) } else { 0 }
 }
@@ -272,6 +275,7 @@ fn with_requests(options: Options, word: u16) -> Options
         steps: options.steps,
         store: options.store,
         inputs,
+        given: options.given,
         requests: options.requests | word,
         after: options.after,
     }
@@ -287,6 +291,7 @@ pub fn with_choice(options: Options, choice: Choice) -> Options
             steps: n,
             store: options.store,
             inputs,
+            given: options.given,
             requests: options.requests,
             after: options.after,
         },
@@ -294,6 +299,7 @@ pub fn with_choice(options: Options, choice: Choice) -> Options
             steps: options.steps,
             store: w,
             inputs,
+            given: options.given,
             requests: options.requests,
             after: options.after,
         },
@@ -303,6 +309,7 @@ pub fn with_choice(options: Options, choice: Choice) -> Options
                 steps: options.steps,
                 store: options.store,
                 inputs: changed,
+                given: options.given | weight(channel),
                 requests: options.requests,
                 after: options.after,
             }
@@ -313,6 +320,7 @@ pub fn with_choice(options: Options, choice: Choice) -> Options
             steps: options.steps,
             store: options.store,
             inputs,
+            given: options.given,
             requests: options.requests,
             after: n,
         },

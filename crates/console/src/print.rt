@@ -7,6 +7,8 @@ use libc::STDERR_FILENO;
 use libc::STDOUT_FILENO;
 use mcode::Machine;
 use mcode::Stop;
+ghost use mathlib.Core.Path.{_≡_};
+ghost use Rattle.console.specs.Choices.{bitAt};
 
 // A label and a number.
 pub fn number(fd: i32, label: &[u8], n: u64) {
@@ -61,7 +63,7 @@ pub fn requests_left(requests: u16) {
     line_end();
 }
 
-// The last line of a reading, where the store tells of a caught trap.
+// The line of a reading where the store tells of a caught trap.
 pub fn put_caught(caught: Caught) {
     if caught.number == 0 {
         return;
@@ -71,6 +73,48 @@ pub fn put_caught(caught: Caught) {
     number(STDOUT_FILENO, b" module ", caught.unit as u64);
     number(STDOUT_FILENO, b" pc ", caught.pc as u64);
     line_end();
+}
+
+// Whether bit i stands in a word, which has 16.
+pub fn has_bit(word: u16, i: usize) -> bool
+    ensures { λ r. ⌜ r ≡ bitAt word i ⌝ }
+{
+    if i < 16 {
+        return (word >> (i as u16)) % 2 == 1;
+    }
+    false
+}
+
+// The channels of a word, each with what it holds, behind a label; no line where there is none.
+fn put_channels(label: &[u8], word: u16, inputs: [u16; 16]) {
+    if word == 0 {
+        return;
+    }
+    io::write_all(STDOUT_FILENO, label);
+    let mut i = 0usize;
+    while i < 16 {
+        if has_bit(word, i) {
+            number(STDOUT_FILENO, b" ", i as u64);
+            number(STDOUT_FILENO, b"=", inputs[i] as u64);
+        }
+        i += 1;
+    }
+    line_end();
+}
+
+// Which inputs a reading rested on, of those given and of those left at 0.
+pub fn rests_on(channels: u16, given: u16, inputs: [u16; 16]) {
+    if channels == 0 {
+        io::write_all(STDOUT_FILENO, b"rests on no inputs");
+        line_end();
+        return;
+    }
+    put_channels(b"rests on inputs given:", channels & given, inputs);
+    put_channels(
+        b"rests on a guess, inputs not given:",
+        channels & !given,
+        inputs,
+    );
 }
 
 // The one line of a refusal.
@@ -131,6 +175,13 @@ pub fn complaint(program: &[u8], argument: &[u8], allowed: &[u8]) {
     head(program, argument);
     io::write_all(STDERR_FILENO, allowed);
     io::write_all(STDERR_FILENO, b"\n");
+}
+
+// On standard error, that argument i is longer than the buffer in which arguments are read.
+pub fn too_long(program: &[u8], i: usize) {
+    io::write_all(STDERR_FILENO, program);
+    number(STDERR_FILENO, b": argument ", i as u64);
+    io::write_all(STDERR_FILENO, b": longer than 4096 bytes\n");
 }
 
 // On standard error, `PROGRAM: FILE: the system's reason`, just after a call that failed.

@@ -71,6 +71,7 @@ module _ (image before store outputs : List ℕ) (p q : Request) (v : Verdict) (
             count = ap (λ (x : RunLeft). x .count) one;
             machine = ap (λ (x : RunLeft). x .state .state .machine) one;
             requests = ap (λ (x : RunLeft). x .state .requests) one;
+            channels = ap (λ (x : RunLeft). x .channels) one;
             second = b ∙ ap (λ (x : RunLeft). runOf image after (q .inputs) (q .budget) (live (x .state .state) (q .requests))) one;
             owed = λ o. demand3 image before after (subst (λ (x : Verdict). Loads image before x after) (passed image before after v L z .verdict-is) L) store outputs f o (p ∷ q ∷ []);
           };

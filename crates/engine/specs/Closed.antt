@@ -22,6 +22,7 @@ pub record Ran2 (image map store outputs : List ℕ) (p q : Request) (r : TwoRun
   pub count : r .first .count ≡ answer image map p (startedOf image store outputs) .count
   pub machine : r .first .machine ≡ answer image map p (startedOf image store outputs) .state .state .machine
   pub requests : r .first .requests ≡ answer image map p (startedOf image store outputs) .state .requests
+  pub channels : r .first .channels ≡ answer image map p (startedOf image store outputs) .channels
   pub second : answered (r .second) store′ outputs′ ≡ answer image map q (answer image map p (startedOf image store outputs) .state .state)
   pub owed : length outputs ≡ 16 → AllRuns image map (p ∷ q ∷ []) (startedOf image store outputs)
 

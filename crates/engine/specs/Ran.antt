@@ -7,8 +7,8 @@ use Rattle.mcode.specs.Run.{RunLeft}
 use Rattle.engine.specs.declared.run.Ran.{Ran}
 
 abbrev pub answered : Ran → List ℕ → List ℕ → RunLeft
-answered r store out = record { ending = r .ending; count = r .count; state = live (state (r .machine) store out) (r .requests) }
+answered r store out = record { ending = r .ending; count = r .count; state = live (state (r .machine) store out) (r .requests); channels = r .channels }
 
--- a refusal with a machine of zeros, and the requests as given
+-- a refusal with a machine of zeros, the requests as given, and no channel
 abbrev pub refusedAs : ℕ → ℕ → Ran
-refusedAs number requests = record { ending = Refused number; count = 0; machine = zeroMachine; requests = requests }
+refusedAs number requests = record { ending = Refused number; count = 0; machine = zeroMachine; requests = requests; channels = 0 }

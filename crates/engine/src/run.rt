@@ -9,15 +9,16 @@ ghost use Rattle.mcode.specs.Machine.{state, live};
 ghost use Rattle.mcode.specs.Run.{runOf};
 ghost use Rattle.engine.specs.Ran.{answered, refusedAs};
 
-// How a run ended, its count of steps, the machine, and what is left of the requests.
+// How a run ended, its count of steps, the machine, what is left of the requests, and the word of the input channels that its READs took.
 pub struct Ran {
     pub ending: Ending,
     pub count: u32,
     pub machine: Machine,
     pub requests: u16,
+    pub channels: u16,
 }
 
-// A refusal, with a machine of zeros, and the requests as given.
+// A refusal, with a machine of zeros, the requests as given, and no channel.
 pub fn refused_with(number: u16, requests: u16) -> Ran
     ensures { λ r. ⌜ r ≡ refusedAs number requests ⌝ }
 {
@@ -27,6 +28,7 @@ pub fn refused_with(number: u16, requests: u16) -> Ran
         count: 0,
         machine,
         requests,
+        channels: 0,
     }
 }
 
@@ -58,6 +60,7 @@ pub fn run(
             count: 0,
             machine,
             requests,
+            channels: 0,
         };
     }
     let table = judged.table;
@@ -79,5 +82,6 @@ pub fn run(
         count: s.count,
         machine: last,
         requests: s.requests,
+        channels: s.channels,
     }
 }

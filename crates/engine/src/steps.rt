@@ -13,14 +13,14 @@ use mcode::Machine;
 use mcode::Stop;
 ghost use mathlib.Core.Path.{_≡_};
 ghost use mathlib.Core.Logic.{_⊎_};
-ghost use Prim.Native.Nat.{_≤_};
+ghost use Prim.Native.Nat.{ℕ, _≤_};
 ghost use lib.ListN.{length};
 ghost use Rattle.mcode.specs.Machine.{state, live};
-ghost use Rattle.mcode.specs.Step.{instructionOf, lineOf, attemptOf, stepOf};
-ghost use Rattle.mcode.specs.Run.{lentTo, runN};
+ghost use Rattle.mcode.specs.Step.{lineOf};
+ghost use Rattle.mcode.specs.Run.{lentTo, runN, tally, instructionTally, attemptTally, stepTally};
 ghost use Rattle.actions.specs.Core.{held};
 ghost use Rattle.engine.specs.Judged.{Passed};
-ghost use Rattle.engine.specs.Loops.{Ready, Names, stretched, liveAt, Advances, stretchOf, stoppedAt};
+ghost use Rattle.engine.specs.Loops.{Ready, Names, stretched, tallyAt, advancedTo, Advances, stretchOf, stoppedAt};
 
 // Where a stretch of instructions stopped: the number of the stop with its code, the count of instructions, and the registers.
 struct Halted {
@@ -40,17 +40,29 @@ fn instructions(
     store: &mut [u16],
     inputs: &[u16],
     outputs: &mut [u16],
+    taken: &mut u16,
     n: u32,
 ) -> Halted
     requires { ⌜ Ready (now image) (now table) (now map) (length (now store)) (length (now outputs)) (length (now inputs)) first (now stack) ⌝ }
-    ensures { λ q. ⌜ (stretched q (now (stack .exit)) (now (store .exit)) (now (outputs .exit)) ≡ runN (instructionOf (lentTo (now (image .entry)) (now (map .entry)) (now (inputs .entry)))) n (held first (now (stack .entry)) (now (store .entry)) (now (outputs .entry)))) × Names (q .number) (q .code) × Ready (now (image .entry)) (now (table .entry)) (now (map .entry)) (length (now (store .exit))) (length (now (outputs .exit))) (length (now (inputs .entry))) (q .core) (now (stack .exit)) ⌝ }
+    ensures { λ q. ⌜ (stretched q (now (stack .exit)) (now (store .exit)) (now (outputs .exit)) (now (taken .exit)) ≡ runN (instructionTally (lentTo (now (image .entry)) (now (map .entry)) (now (inputs .entry)))) n (tally (held first (now (stack .entry)) (now (store .entry)) (now (outputs .entry))) (now (taken .entry)))) × Names (q .number) (q .code) × Ready (now (image .entry)) (now (table .entry)) (now (map .entry)) (length (now (store .exit))) (length (now (outputs .exit))) (length (now (inputs .entry))) (q .core) (now (stack .exit)) ⌝ }
 {
     let mut r = first;
     let mut left = n as u64 + 1;
     let mut code = 0u16;
     let number = 'steps: loop {
         left = left - 1;
-        let s = turn(left, r, image, table, map, stack, store, inputs, outputs);
+        let s = turn(
+            left,
+            r,
+            image,
+            table,
+            map,
+            stack,
+            store,
+            inputs,
+            outputs,
+            taken,
+        );
         let next = s.core;
         r = next;
         if s.stop != 0 {
@@ -93,7 +105,7 @@ fn by_line(
 ) -> Advanced
     requires { ⌜ Ready (now image) (now table) (now map) (length (now store)) (length (now outputs)) (length (now inputs)) r (now stack) ⌝ }
     requires { ⌜ (1 ≤ left) × (1 ≤ i) × (i ≡ lineOf (live (held r (now stack) (now store) (now outputs)) given)) ⌝ }
-    ensures { λ a. ⌜ Advances (attemptOf (lentTo (now (image .entry)) (now (map .entry)) (now (inputs .entry)))) left (live (held r (now (stack .entry)) (now (store .entry)) (now (outputs .entry))) given) a (liveAt a (now (stack .exit)) (now (store .exit)) (now (outputs .entry))) × Ready (now (image .entry)) (now (table .entry)) (now (map .entry)) (length (now (store .exit))) (length (now (outputs .entry))) (length (now (inputs .entry))) (a .core) (now (stack .exit)) ⌝ }
+    ensures { λ a. ⌜ ((w : ℕ) → Advances (attemptTally (lentTo (now (image .entry)) (now (map .entry)) (now (inputs .entry)))) left (tallyAt r (now (stack .entry)) (now (store .entry)) (now (outputs .entry)) given w) a (advancedTo a (now (stack .exit)) (now (store .exit)) (now (outputs .entry)) w)) × Ready (now (image .entry)) (now (table .entry)) (now (map .entry)) (length (now (store .exit))) (length (now (outputs .entry))) (length (now (inputs .entry))) (a .core) (now (stack .exit)) ⌝ }
 {
     let t = take_line(r, table, map, stack, store, i);
     let next = t.core;
@@ -139,15 +151,27 @@ fn by_instructions(
     store: &mut [u16],
     inputs: &[u16],
     outputs: &mut [u16],
+    taken: &mut u16,
     left: u32,
     requests: u16,
 ) -> Advanced
     requires { ⌜ Ready (now image) (now table) (now map) (length (now store)) (length (now outputs)) (length (now inputs)) r (now stack) ⌝ }
     requires { ⌜ (left ≡ 0) ⊎ (lineOf (live (held r (now stack) (now store) (now outputs)) requests) ≡ 0) ⌝ }
-    ensures { λ a. ⌜ Advances (attemptOf (lentTo (now (image .entry)) (now (map .entry)) (now (inputs .entry)))) left (live (held r (now (stack .entry)) (now (store .entry)) (now (outputs .entry))) requests) a (liveAt a (now (stack .exit)) (now (store .exit)) (now (outputs .exit))) × Ready (now (image .entry)) (now (table .entry)) (now (map .entry)) (length (now (store .exit))) (length (now (outputs .exit))) (length (now (inputs .entry))) (a .core) (now (stack .exit)) ⌝ }
+    ensures { λ a. ⌜ Advances (attemptTally (lentTo (now (image .entry)) (now (map .entry)) (now (inputs .entry)))) left (tallyAt r (now (stack .entry)) (now (store .entry)) (now (outputs .entry)) requests (now (taken .entry))) a (advancedTo a (now (stack .exit)) (now (store .exit)) (now (outputs .exit)) (now (taken .exit))) × Ready (now (image .entry)) (now (table .entry)) (now (map .entry)) (length (now (store .exit))) (length (now (outputs .exit))) (length (now (inputs .entry))) (a .core) (now (stack .exit)) ⌝ }
 {
     let n = stretch(left, requests);
-    let h = instructions(r, image, table, map, stack, store, inputs, outputs, n);
+    let h = instructions(
+        r,
+        image,
+        table,
+        map,
+        stack,
+        store,
+        inputs,
+        outputs,
+        taken,
+        n,
+    );
     let next = h.core;
     let rest = left - h.count;
     if h.count == n {
@@ -180,11 +204,12 @@ fn advance(
     store: &mut [u16],
     inputs: &[u16],
     outputs: &mut [u16],
+    taken: &mut u16,
     left: u32,
     requests: u16,
 ) -> Advanced
     requires { ⌜ Ready (now image) (now table) (now map) (length (now store)) (length (now outputs)) (length (now inputs)) r (now stack) ⌝ }
-    ensures { λ a. ⌜ Advances (attemptOf (lentTo (now (image .entry)) (now (map .entry)) (now (inputs .entry)))) left (live (held r (now (stack .entry)) (now (store .entry)) (now (outputs .entry))) requests) a (liveAt a (now (stack .exit)) (now (store .exit)) (now (outputs .exit))) × Ready (now (image .entry)) (now (table .entry)) (now (map .entry)) (length (now (store .exit))) (length (now (outputs .exit))) (length (now (inputs .entry))) (a .core) (now (stack .exit)) ⌝ }
+    ensures { λ a. ⌜ Advances (attemptTally (lentTo (now (image .entry)) (now (map .entry)) (now (inputs .entry)))) left (tallyAt r (now (stack .entry)) (now (store .entry)) (now (outputs .entry)) requests (now (taken .entry))) a (advancedTo a (now (stack .exit)) (now (store .exit)) (now (outputs .exit)) (now (taken .exit))) × Ready (now (image .entry)) (now (table .entry)) (now (map .entry)) (length (now (store .exit))) (length (now (outputs .exit))) (length (now (inputs .entry))) (a .core) (now (stack .exit)) ⌝ }
 {
     let i = line_of(requests, r.mask, store[3]);
     if i != 0 {
@@ -213,6 +238,7 @@ fn advance(
         store,
         inputs,
         outputs,
+        taken,
         left,
         requests,
     )
@@ -228,11 +254,12 @@ fn attempts(
     store: &mut [u16],
     inputs: &[u16],
     outputs: &mut [u16],
+    taken: &mut u16,
     n: u32,
     requests: u16,
 ) -> Advanced
     requires { ⌜ Ready (now image) (now table) (now map) (length (now store)) (length (now outputs)) (length (now inputs)) first (now stack) ⌝ }
-    ensures { λ a. ⌜ Advances (attemptOf (lentTo (now (image .entry)) (now (map .entry)) (now (inputs .entry)))) n (live (held first (now (stack .entry)) (now (store .entry)) (now (outputs .entry))) requests) a (liveAt a (now (stack .exit)) (now (store .exit)) (now (outputs .exit))) × (a .stop ≡ 0 → ⊥) × Ready (now (image .entry)) (now (table .entry)) (now (map .entry)) (length (now (store .exit))) (length (now (outputs .exit))) (length (now (inputs .entry))) (a .core) (now (stack .exit)) ⌝ }
+    ensures { λ a. ⌜ Advances (attemptTally (lentTo (now (image .entry)) (now (map .entry)) (now (inputs .entry)))) n (tallyAt first (now (stack .entry)) (now (store .entry)) (now (outputs .entry)) requests (now (taken .entry))) a (advancedTo a (now (stack .exit)) (now (store .exit)) (now (outputs .exit)) (now (taken .exit))) × (a .stop ≡ 0 → ⊥) × Ready (now (image .entry)) (now (table .entry)) (now (map .entry)) (length (now (store .exit))) (length (now (outputs .exit))) (length (now (inputs .entry))) (a .core) (now (stack .exit)) ⌝ }
 {
     let mut r = first;
     let mut left = n;
@@ -248,6 +275,7 @@ fn attempts(
             store,
             inputs,
             outputs,
+            taken,
             left,
             pending,
         );
@@ -269,12 +297,13 @@ fn attempts(
     }
 }
 
-// Where the run stopped: the stop, the count of steps, the machine, and what is left of the requests.
+// Where the run stopped: the stop, the count of steps, the machine, what is left of the requests, and the word of the channels that it took.
 pub struct Stopping {
     pub stop: Stop,
     pub count: u32,
     pub machine: Machine,
     pub requests: u16,
+    pub channels: u16,
 }
 
 // Up to n steps: lines, instructions and the traps of either, until a stop is found that is not caught.
@@ -290,13 +319,14 @@ pub fn steps(
     requests: u16,
 ) -> Stopping
     requires { ⌜ Passed (now image) (now map) machine (length (now store)) (length (now outputs)) (length (now inputs)) (now table) ⌝ }
-    ensures { λ q. ⌜ stoppedAt q (now (store .exit)) (now (outputs .exit)) ≡ runN (stepOf (lentTo (now (image .entry)) (now (map .entry)) (now (inputs .entry)))) n (live (state machine (now (store .entry)) (now (outputs .entry))) requests) ⌝ }
+    ensures { λ q. ⌜ stoppedAt q (now (store .exit)) (now (outputs .exit)) ≡ runN (stepTally (lentTo (now (image .entry)) (now (map .entry)) (now (inputs .entry)))) n (tally (live (state machine (now (store .entry)) (now (outputs .entry))) requests) 0) ⌝ }
 {
     let registers = machine.registers;
     let mut stack = machine.stack;
     let mut r = core_of(registers, table);
     let mut left = n;
     let mut pending = requests;
+    let mut taken = 0u16;
     let mut code = 0u16;
     let number = 'traps: loop {
         let a = attempts(
@@ -308,6 +338,7 @@ pub fn steps(
             store,
             inputs,
             outputs,
+            &mut taken,
             left,
             pending,
         );
@@ -330,5 +361,6 @@ pub fn steps(
         count: n - left,
         machine: after,
         requests: pending,
+        channels: taken,
     }
 }

@@ -13,12 +13,13 @@ use Rattle.mcode.specs.Word.{pick, and, or, allBelow}
 use Rattle.mcode.specs.Opcode.{lengths, takens, lefts}
 use Rattle.mcode.specs.Depths.{namesModule}
 use Rattle.mcode.specs.Image.{procCount}
-use Rattle.mcode.specs.Step.{Lent, instructionOf}
+use Rattle.mcode.specs.Step.{Lent, instructionOf, readOf}
 use Rattle.actions.specs.declared.Core.{Core}
-use Rattle.actions.specs.Core.{instruction, performed, spentOp, leftBy, held, operandAt}
+use Rattle.actions.specs.Core.{instruction, performed, spentOp, leftBy, held, readAt, unites, operandAt}
 use Rattle.actions.specs.Table.{moduleIn, Lends, Anchored, Needs}
 use Rattle.control.specs.Frames.{Roomy}
 use Rattle.rows_high.specs.Rows.{Stacked}
+use Rattle.rows_high.proofs.Laws.{takes-none as no-read}
 use Rattle.execute.specs.Stepping.{Asks, opcodeAt, chosenOp, turned}
 
 -- ---- places of the image and positions of the code, which begins at s: p is a place in it
@@ -39,6 +40,15 @@ step-is : {image table map inputs : List ℕ} {lent : Lent} (r : Core) (stack st
     → instruction lent (opcodeAt image r) (operandAt image r) r stack store out ≡ leftBy (held r stack store out) (instructionOf lent (held r stack store out))
 unfolding instruction instructionOf
 step-is {image} r stack store out h a = rw (h .image, h .tabled .modules (r .unit) (a .few), ← a .start, place (a .own), operands-on image (a .own), position-on (a .own))
+
+-- the channel that it takes
+pub read-is : {image table map inputs : List ℕ} {lent : Lent} (r : Core) (stack store out : List ℕ) → Lends image table map inputs lent → Anchored table r
+    → readAt (opcodeAt image r) r stack ≡ readOf lent (held r stack store out)
+read-is r stack store out h a = rw (h .image, h .tabled .modules (r .unit) (a .few), ← a .start, place (a .own))
+
+-- an instruction of another row than READ's takes none
+pub takes-none : (op k : ℕ) (r : Core) (stack : List ℕ) (stop w : ℕ) → op / 16 ≡ k → eqb k 10 ≡ false → w ≡ unites stop w (readAt op r stack)
+takes-none op k r stack stop w row n = no-read op r stack stop w (λ e. eqb-false k 10 n (let q : k ≡ 10 = omega (arith, row, e) in q))
 
 -- ---- the rows that take and leave the same for each opcode: 0, 6 and 7, by one computed test of the table
 abbrev isEven : ℕ → Bool

@@ -1,28 +1,31 @@
--- The step of a whole machine: what its turn asks, what it leaves, what the trap of that asks, and that the place it leaves is a position.
--- Assumes nothing.
-use mathlib.Core.Path.{_≡_, refl, sym, subst}
+-- The step of a whole machine: what its turn asks, what it leaves, the channel that it takes, what the trap of that asks, and that the place
+-- it leaves is a position. Assumes nothing.
+use mathlib.Core.Path.{_≡_, refl, sym, ap, _∙_, subst}
 use mathlib.Core.Bool.{true}
 use mathlib.Core.List.{List}
 use Prim.Native.Nat.{ℕ, _-_, _≤_, _<_}
 use lib.ListN.{getD, length}
 use native.Mathlib.Omega.{arith}
+use borrow.Author.Tests.{ne-eqb}
 use Rattle.mcode.specs.Opcode.{lengths}
 use Rattle.mcode.specs.Image.{parse}
-use Rattle.mcode.specs.Machine.{State, state, Outcome, go, halt, handled, isMachine, machine}
-use Rattle.mcode.specs.Step.{Lent, instructionOf, trapped, quietOf}
+use Rattle.mcode.specs.Machine.{State, state, Outcome, go, halt, handled, stopNumber, isMachine, machine}
+use Rattle.mcode.specs.Step.{Lent, instructionOf, trapped, quietOf, readOf, completed, quietRead}
 use Rattle.mcode.specs.Run.{lentTo}
 use Rattle.mcode.specs.declared.Machine.{Machine}
+use Rattle.mcode.specs.declared.Registers.{Registers}
 use Rattle.mcode.proofs.Standing.{good-of}
 use Rattle.mcode.proofs.Points.{instruction-preserves, quiet-preserves}
 use Rattle.actions.specs.declared.Core.{Core}
 use Rattle.actions.specs.declared.Stepped.{Stepped}
-use Rattle.actions.specs.Core.{Left, leftBy, shown, held, result}
+use Rattle.actions.specs.Core.{Left, leftBy, shown, held, result, readAt, unites}
 use Rattle.actions.specs.Table.{Lends, Anchored}
 use Rattle.control.specs.Table.{Mapped}
 use Rattle.control.specs.Frames.{Framed}
 use Rattle.execute.specs.Stepping.{Asks, Prepared, opcodeAt, turned}
 use Rattle.execute.proofs.Fits.{asks-of, listed-of}
-use Rattle.execute.proofs.Went.{stop-most}
+use Rattle.execute.proofs.Laws.{read-is}
+use Rattle.execute.proofs.Went.{a-stop, stop-most}
 
 pub lends : {image table map : List ℕ} {w : ℕ} (inputs : List ℕ) → Prepared image table map w → Lends image table map inputs (lentTo image map inputs)
 lends inputs P = record { image = refl; tabled = P .tabled; map = refl; inputs = refl }
@@ -43,6 +46,20 @@ module _ {image table map : List ℕ} {w : ℕ} (P : Prepared image table map w)
     pub after-step : {l : Left} (inputs store out : List ℕ) → ((lent : Lent) → Lends image table map inputs lent → l ≡ turned lent 1 (held r (m .stack) store out))
         → l ≡ leftBy (state m store out) (instructionOf (lentTo image map inputs) (state m store out))
     after-step inputs store out f = rw same at (f (lentTo image map inputs) (lends inputs P))
+
+    -- the word of channels, which was 0 before the turn
+    pub channel-step : {l : Left} {u : ℕ} (inputs store out : List ℕ) → l ≡ leftBy (state m store out) (instructionOf (lentTo image map inputs) (state m store out))
+        → u ≡ unites (l .stop) 0 (readAt (opcodeAt image r) r (m .stack)) → u ≡ quietRead (lentTo image map inputs) (state m store out)
+    channel-step {l} {u} inputs store out e d = d ∙ ap (unites (l .stop) 0) bits ∙ by (instructionOf (lentTo image map inputs) (state m store out)) e
+      where
+        bits : readAt (opcodeAt image r) r (m .stack) ≡ readOf (lentTo image map inputs) (state m store out)
+        bits =
+            read-is r (m .stack) store out (lends inputs P) anchored
+            ∙ ap (λ (g : Registers). readOf (lentTo image map inputs) (state (machine g (m .stack)) store out)) same
+
+        by : (o : Outcome) → l ≡ leftBy (state m store out) o → unites (l .stop) 0 (readOf (lentTo image map inputs) (state m store out)) ≡ completed (readOf (lentTo image map inputs) (state m store out)) o
+        by (go y) f = rw f refl
+        by (halt k) f = rw (f, ne-eqb (stopNumber k) 0 (a-stop k)) refl
 
 -- what a step leaves is a machine again, and a stop leaves all as it was
 module _ {image table map : List ℕ} (inputs : List ℕ) (x : State) (P : Prepared image table map (length (x .store)))

@@ -22,7 +22,7 @@ ghost use Prim.Native.Nat.{_≤_};
 ghost use lib.ListN.{length, getD};
 ghost use Rattle.mcode.specs.Opcode.{lengths};
 ghost use Rattle.mcode.specs.Step.{Lent};
-ghost use Rattle.actions.specs.Core.{held, result, performed, operandAt};
+ghost use Rattle.actions.specs.Core.{held, result, performed, readAt, unites, operandAt};
 ghost use Rattle.actions.specs.Table.{Anchored, Lends};
 ghost use Rattle.execute.specs.Stepping.{Asks, opcodeAt, chosenOp, turned};
 
@@ -42,10 +42,11 @@ fn perform(
     store: &mut [u16],
     inputs: &[u16],
     outputs: &mut [u16],
+    taken: &mut u16,
 ) -> Stepped
     requires { ⌜ Asks (now image) (now table) (now map) (length (now store)) op r ⌝ }
     requires { ⌜ (length (now inputs) ≡ 16) × (length (now outputs) ≡ 16) ⌝ }
-    ensures { λ q. ⌜ ((lent : Lent) → Lends (now (image .entry)) (now (table .entry)) (now (map .entry)) (now (inputs .entry)) lent → result q (now (stack .exit)) (now (store .exit)) (now (outputs .exit)) ≡ performed lent op (operandAt (now (image .entry)) r) r (now (stack .entry)) (now (store .entry)) (now (outputs .entry))) × Anchored (now (table .entry)) (q .core) ⌝ }
+    ensures { λ q. ⌜ ((lent : Lent) → Lends (now (image .entry)) (now (table .entry)) (now (map .entry)) (now (inputs .entry)) lent → result q (now (stack .exit)) (now (store .exit)) (now (outputs .exit)) ≡ performed lent op (operandAt (now (image .entry)) r) r (now (stack .entry)) (now (store .entry)) (now (outputs .entry))) × (now (taken .exit) ≡ unites (q .stop) (now (taken .entry)) (readAt op r (now (stack .entry)))) × Anchored (now (table .entry)) (q .core) ⌝ }
 {
     match op / 16 {
         0 => row0(op, r, stack),
@@ -58,7 +59,18 @@ fn perform(
         7 => row7(op, r, stack, store),
         8 => row8(op, r, image, stack, store),
         9 => row9(op, r, image, stack, store),
-        10 => row10(op, r, image, table, map, stack, store, inputs, outputs),
+        10 => row10(
+            op,
+            r,
+            image,
+            table,
+            map,
+            stack,
+            store,
+            inputs,
+            outputs,
+            taken,
+        ),
         11 => row11(op, r, map, stack, store),
         12 => row12(op, r, stack),
         13 => row13(op, r, stack),
@@ -84,14 +96,26 @@ pub fn turn(
     store: &mut [u16],
     inputs: &[u16],
     outputs: &mut [u16],
+    taken: &mut u16,
 ) -> Stepped
     requires { ⌜ Asks (now image) (now table) (now map) (length (now store)) (opcodeAt (now image) r) r ⌝ }
     requires { ⌜ (1 ≤ getD lengths (opcodeAt (now image) r) 0) × (length (now inputs) ≡ 16) × (length (now outputs) ≡ 16) ⌝ }
-    ensures { λ q. ⌜ ((lent : Lent) → Lends (now (image .entry)) (now (table .entry)) (now (map .entry)) (now (inputs .entry)) lent → result q (now (stack .exit)) (now (store .exit)) (now (outputs .exit)) ≡ turned lent left (held r (now (stack .entry)) (now (store .entry)) (now (outputs .entry)))) × Anchored (now (table .entry)) (q .core) ⌝ }
+    ensures { λ q. ⌜ ((lent : Lent) → Lends (now (image .entry)) (now (table .entry)) (now (map .entry)) (now (inputs .entry)) lent → result q (now (stack .exit)) (now (store .exit)) (now (outputs .exit)) ≡ turned lent left (held r (now (stack .entry)) (now (store .entry)) (now (outputs .entry)))) × (now (taken .exit) ≡ unites (q .stop) (now (taken .entry)) (readAt (chosenOp left (opcodeAt (now (image .entry)) r)) r (now (stack .entry)))) × Anchored (now (table .entry)) (q .core) ⌝ }
 {
     let i = r.pc;
     let op = chosen(left, image[i]);
-    perform(op, r, image, table, map, stack, store, inputs, outputs)
+    perform(
+        op,
+        r,
+        image,
+        table,
+        map,
+        stack,
+        store,
+        inputs,
+        outputs,
+        taken,
+    )
 }
 
 pub mod steps;

@@ -17,7 +17,7 @@ ghost use lib.ListN.{length};
 ghost use Rattle.mcode.specs.Image.{parse};
 ghost use Rattle.mcode.specs.Machine as M;
 ghost use Rattle.mcode.specs.Machine.{State, isMachine, state, Outcome, handled};
-ghost use Rattle.mcode.specs.Step.{Lent, trapped, quietOf};
+ghost use Rattle.mcode.specs.Step.{Lent, trapped, quietOf, quietRead};
 ghost use Rattle.mcode.specs.Run.{lentTo};
 ghost use Rattle.actions.specs.Core.{shown, result, leftBy};
 ghost use Rattle.actions.specs.Table.{Anchored, Lends};
@@ -25,11 +25,13 @@ ghost use Rattle.control.specs.Table.{Mapped};
 ghost use Rattle.control.specs.Frames.{Framed};
 ghost use Rattle.execute.specs.Stepping.{Prepared, answered};
 
-// What a step leaves: 0 and the machine after it, or a stop with its code and the machine as it was.
+// What a step leaves: 0 and the machine after it, or a stop with its code and the machine as it was; and the bit of the input channel that
+// it took, or 0.
 pub struct Next {
     pub stop: u32,
     pub code: u16,
     pub machine: Machine,
+    pub channels: u16,
 }
 
 // The registers with the numbers of their module.
@@ -126,11 +128,24 @@ pub fn step(
     requires { ⌜ isMachine (parse (now image) .program) (now map) (length (now store)) machine ≡ true ⌝ }
     requires { ⌜ (length (now inputs) ≡ 16) × (length (now outputs) ≡ 16) ⌝ }
     ensures { λ q. ⌜ answered q (now (store .exit)) (now (outputs .exit)) ≡ leftBy (state machine (now (store .entry)) (now (outputs .entry))) (quietOf (lentTo (now (image .entry)) (now (map .entry)) (now (inputs .entry))) (state machine (now (store .entry)) (now (outputs .entry)))) ⌝ }
+    ensures { λ q. ⌜ q .channels ≡ quietRead (lentTo (now (image .entry)) (now (map .entry)) (now (inputs .entry))) (state machine (now (store .entry)) (now (outputs .entry))) ⌝ }
 {
     let registers = machine.registers;
     let mut stack = machine.stack;
     let r = core_of(registers, table);
-    let s = turn(1, r, image, table, map, &mut stack, store, inputs, outputs);
+    let mut taken = 0u16;
+    let s = turn(
+        1,
+        r,
+        image,
+        table,
+        map,
+        &mut stack,
+        store,
+        inputs,
+        outputs,
+        &mut taken,
+    );
     let t = settle(s, table, map, &mut stack, store);
     let core = t.core;
     let after = machine_of(core, stack);
@@ -138,5 +153,6 @@ pub fn step(
         stop: t.stop,
         code: t.code,
         machine: after,
+        channels: taken,
     }
 }

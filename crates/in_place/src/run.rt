@@ -10,17 +10,17 @@ use mcode::Machine;
 ghost use mathlib.Core.Path.{_≡_};
 ghost use lib.ListN.{length};
 ghost use Rattle.mcode.specs.Machine.{state, live};
-ghost use Rattle.mcode.specs.Step.{quietOf};
-ghost use Rattle.mcode.specs.Run.{lentTo, runN, runOf};
+ghost use Rattle.mcode.specs.Run.{lentTo, runN, tally, quietTally, runOf};
 ghost use Rattle.engine.specs.Judged.{Passed};
 ghost use Rattle.engine.specs.Ran.{answered};
 ghost use Rattle.in_place.specs.Placed.{haltedAt};
 
-// Where the stepping loop stopped: the stop with its code, the count of steps, and the machine.
+// Where the stepping loop stopped: the stop with its code, the count of steps, the machine, and the word of the channels that it took.
 struct Halted {
     stop: Halt,
     count: u32,
     machine: Machine,
+    channels: u16,
 }
 
 // One machine in this function's own memory, which each step alters there until a stop is found.
@@ -35,24 +35,31 @@ fn steps_in_place(
     n: u32,
 ) -> Halted
     requires { ⌜ Passed (now image) (now map) machine (length (now store)) (length (now outputs)) (length (now inputs)) (now table) ⌝ }
-    ensures { λ q. ⌜ haltedAt q (now (store .exit)) (now (outputs .exit)) ≡ runN (quietOf (lentTo (now (image .entry)) (now (map .entry)) (now (inputs .entry)))) n (state machine (now (store .entry)) (now (outputs .entry))) ⌝ }
+    ensures { λ q. ⌜ haltedAt q (now (store .exit)) (now (outputs .exit)) ≡ runN (quietTally (lentTo (now (image .entry)) (now (map .entry)) (now (inputs .entry)))) n (tally (state machine (now (store .entry)) (now (outputs .entry))) 0) ⌝ }
 {
     let mut m = machine;
     let mut count = 0u32;
+    let mut taken = 0u16;
     let stop = 'desk: loop {
         if n <= count {
-            break 'desk Halt { stop: 30, code: 0 };
+            break 'desk Halt {
+                stop: 30,
+                code: 0,
+                channels: 0,
+            };
         }
         let h = step_in_place(&mut m, image, table, map, store, inputs, outputs);
         if h.stop != 0 {
             break 'desk h;
         }
+        taken = taken | h.channels;
         count += 1;
     };
     Halted {
         stop,
         count,
         machine: m,
+        channels: taken,
     }
 }
 
@@ -83,6 +90,7 @@ pub fn run(
             count: 0,
             machine,
             requests: 0,
+            channels: 0,
         };
     }
     let table = judged.table;
@@ -95,5 +103,6 @@ pub fn run(
         count: h.count,
         machine: last,
         requests: 0,
+        channels: h.channels,
     }
 }

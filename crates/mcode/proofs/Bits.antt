@@ -1,14 +1,14 @@
 -- The bits of a word, by their weights: when one is taken off, and in words that are put together bit by bit. Assumes nothing.
-use mathlib.Core.Path.{_≡_, refl, sym, ap, _∙_, subst}
-use mathlib.Core.Bool.{true, false, not}
+use mathlib.Core.Path.{_≡_, refl, sym, ap, ap₂, _∙_, subst}
+use mathlib.Core.Bool.{true, false, not, false≢true}
 use Prim.Native.Nat.{ℕ, zero, suc, _+_, _-_, _*_, _/_, _%_, _^_, _≤_, _<_, min, max}
-use native.Mathlib.Nat.{suc-mul, add-mul, mod-lt, pow-suc, min-le-left, max-le, lt-of-le-of-lt, lt-of-lt-of-le}
+use native.Mathlib.Nat.{mod-self, zero-div, suc-mul, add-mul, mod-lt, pow-suc, one-mul, zero-max, max-zero, suc-max-suc, min-le-left, max-le, lt-of-le-of-lt, lt-of-lt-of-le}
 use native.Mathlib.Decide.{decLt, ℕ-discrete}
 use native.Mathlib.Omega.{arith}
 use lib.Dec.{eqb}
-use lib.Arith.{lt-one, digits-mod}
+use lib.Arith.{lt-one, bin-ind, digits-mod}
 use lib.Bits.{bitAnd, bitOr, and-step, or-step, and-shr, or-shr}
-use lib.Pow.{pow-pos, pow-mono, shr-shr, shr-lt, split, high, low, field, mod-mod-pow, ones-split, le-ones}
+use lib.Pow.{pow-pos, pow-mono, pow-lt, shl-shr, shr-shr, shr-lt, split, high, low, field, mod-mod-pow, ones-split, le-ones}
 use borrow.Author.Tests.{eqb-true, eq-eqb, ne-eqb}
 use Rattle.mcode.specs.Word.{pick, and, or, bit}
 use Rattle.mcode.specs.Demands.{ClearsBit}
@@ -167,3 +167,39 @@ pub no-bit : (w n i : ℕ) → w < 2 ^ n → n ≤ i → bit w i ≡ false
 no-bit w n i h l =
     let g : 2 ^ n ≤ 2 ^ (0 + i) = pow-mono {i = n} {j = 0 + i} (omega arith) in
     rw (lt-one (shr-lt 0 i (lt-of-lt-of-le {n = w} {m = 2 ^ n} {k = 2 ^ (0 + i)} h g))) refl
+
+-- the bit of a weight
+pub bit-weight : (i : ℕ) → bit (2 ^ i) i ≡ true
+bit-weight i =
+    let e : 2 ^ i / 2 ^ i ≡ 1 = ap (λ (k : ℕ). k / 2 ^ i) (sym (one-mul (2 ^ i))) ∙ shl-shr 1 i in
+    rw e refl
+
+max-assoc : (x y z : ℕ) → max (max x y) z ≡ max x (max y z)
+max-assoc zero y z = rw (zero-max y, zero-max (max y z)) refl
+max-assoc (suc x) zero z = rw (max-zero (suc x), zero-max z) refl
+max-assoc (suc x) (suc y) zero = rw (max-zero (max (suc x) (suc y)), max-zero (suc y)) refl
+max-assoc (suc x) (suc y) (suc z) = rw (suc-max-suc x y, suc-max-suc y z, suc-max-suc (max x y) z, suc-max-suc x (max y z)) (ap suc (max-assoc x y z))
+
+pub or-assoc : (a b c : ℕ) → bitOr (bitOr a b) c ≡ bitOr a (bitOr b c)
+or-assoc a =
+    bin-ind (λ (n : ℕ). (b c : ℕ) → bitOr (bitOr n b) c ≡ bitOr n (bitOr b c)) (λ b c. refl)
+    (λ n ih b c.
+    or-step (bitOr n b) c
+    ∙ ap₂ (λ (x y : ℕ). bitOr x (c / 2) * 2 + max y (c % 2)) (or-shr n b 1) (or-digit n b)
+    ∙ ap₂ (λ (x y : ℕ). x * 2 + y) (ih (b / 2) (c / 2)) (max-assoc (n % 2) (b % 2) (c % 2))
+    ∙ sym (or-step n (bitOr b c) ∙ ap₂ (λ (x y : ℕ). bitOr (n / 2) x * 2 + max (n % 2) y) (or-shr b c 1) (or-digit b c))) a
+
+-- a weight has no other bit
+pub weight-only : (j i : ℕ) → bit (2 ^ j) i ≡ true → j ≡ i
+weight-only j i t = by (decLt i j) (ℕ-discrete j i)
+  where
+    low-one : i < j → 2 ^ j / 2 ^ i % 2 ≡ 0
+    low-one l = low-digit (2 ^ j) i j l ∙ ap (λ (k : ℕ). k / 2 ^ i % 2) (mod-self (2 ^ j)) ∙ ap (λ (k : ℕ). k % 2) (zero-div (2 ^ i))
+
+    beyond : (i < j → ⊥) → (j ≡ i → ⊥) → suc j ≤ i
+    beyond a b = omega (arith, a, b)
+
+    by : Dec (i < j) → Dec (j ≡ i) → j ≡ i
+    by d (yes e) = e
+    by (yes l) (no n) = absurd (false≢true (sym (ap (λ (k : ℕ). eqb k 1) (low-one l)) ∙ t))
+    by (no m) (no n) = absurd (false≢true (sym (no-bit (2 ^ j) (suc j) i (pow-lt (omega arith)) (beyond m n)) ∙ t))

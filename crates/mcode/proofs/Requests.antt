@@ -1,17 +1,17 @@
 -- The word of requests: which line is taken, what is left of the word, and a run without a line in it. Assumes nothing.
-use mathlib.Core.Path.{_≡_, refl, sym, ap, _∙_, subst}
+use mathlib.Core.Path.{_≡_, refl, sym, ap, ap₂, _∙_, subst}
 use mathlib.Core.Logic.{_⊎_, inl, inr}
 use mathlib.Core.Bool.{Bool, true, false, not, false≢true}
 use Prim.Native.Nat.{ℕ, zero, suc, _+_, _-_, _*_, _^_, _≤_, _<_}
 use native.Mathlib.Nat.{pow-suc}
 use native.Mathlib.Omega.{arith}
 use lib.Dec.{eqb}
-use lib.Bits.{bitAnd, bitOr}
+use lib.Bits.{bitAnd, bitOr, or-zero-r}
 use borrow.Author.Tests.{eqb-true, eqb-false, ne-eqb}
 use Rattle.mcode.specs.Word.{pick, and, or, bit}
 use Rattle.mcode.specs.Machine.{State, Live, live, OutcomeOf, Outcome, go, halt, leaving, handled}
-use Rattle.mcode.specs.Step.{Lent, instructionOf, isOpen, highest, lineOf, takenLine, attemptOf, trapped, stepOf, quietOf}
-use Rattle.mcode.specs.Run.{next, runN}
+use Rattle.mcode.specs.Step.{Lent, instructionOf, isOpen, highest, lineOf, takenLine, attemptOf, trapped, stepOf, quietOf, readOf, attemptRead, completed, stepRead, quietRead}
+use Rattle.mcode.specs.Run.{next, runN, Tally, tally, tallied, stepTally, attemptTally, instructionTally, quietTally}
 use Rattle.mcode.specs.Demands.{HighestLine, Lineless, holding, QuietRuns, ClearsBit, RequestsLeft}
 use Rattle.mcode.proofs.Tests.{and-both}
 use Rattle.mcode.proofs.Bits.{clears-bit, bit-not, bit-and, bit-or, top-bit, no-bit}
@@ -77,7 +77,7 @@ open-lines w m v small =
 pub none-below : (w : ℕ) → w < 256 → highest (bit w) 8 ≡ 0
 none-below w h = highest-same (bit w) (λ i. false) (λ i l m. no-bit w 8 i h l) 8 (omega arith) ∙ no-highest 8
 
--- ---- where the requests have no line, a step is the instruction's or its trap's, and runs agree
+-- ---- where the requests have no line, a step is the instruction's or its trap's, takes the channel that it takes, and runs agree
 
 no-line : (x : Live) → Lineless (x .requests) → lineOf x ≡ 0
 no-line x q = highest-same (isOpen x) (λ i. false) (λ i l h. rw (q i l h) refl) 8 (omega arith) ∙ no-highest 8
@@ -91,6 +91,32 @@ pub line-step : (lent : Lent) (x : Live) → 1 ≤ lineOf x → attemptOf lent x
 unfolding attemptOf
 line-step lent x l = rw (ne-eqb (lineOf x) 0 (λ z. omega (arith, l, z))) refl
 
+-- the bits that an attempt takes without a line, and with it
+instruction-read : (lent : Lent) (x : Live) → lineOf x ≡ 0 → attemptRead lent x ≡ readOf lent (x .state)
+instruction-read lent x z = rw z refl
+
+line-read : (lent : Lent) (x : Live) → 1 ≤ lineOf x → attemptRead lent x ≡ 0
+line-read lent x l = rw (ne-eqb (lineOf x) 0 (λ z. omega (arith, l, z))) refl
+
+pub line-tally : (lent : Lent) (x : Live) (c : ℕ) → 1 ≤ lineOf x → attemptTally lent (tally x c) ≡ tallied c (attemptOf lent x)
+line-tally lent x c l = rw (line-read lent x l, or-zero-r c) refl
+
+-- what an instruction, or the step where no line is taken, leads to, with the word w beside it
+abbrev beside : ℕ → Tally State → Tally Live
+beside w t = tally (live (t .state) w) (t .channels)
+
+abbrev besides : ℕ → OutcomeOf (Tally State) → OutcomeOf (Tally Live)
+besides w (go t) = go (beside w t)
+besides w (halt k) = halt k
+
+tallied-beside : (v w : ℕ) (o : Outcome) → tallied v (leaving w o) ≡ besides w (tallied v o)
+tallied-beside v w (go x) = refl
+tallied-beside v w (halt k) = refl
+
+instruction-tally : (lent : Lent) (x : State) (w c : ℕ) → lineOf (live x w) ≡ 0 → attemptTally lent (tally (live x w) c) ≡ besides w (instructionTally lent (tally x c))
+instruction-tally lent x w c z =
+    ap₂ (λ (b : ℕ) (o : OutcomeOf Live). tallied (bitOr c b) o) (instruction-read lent (live x w) z) (instruction-step lent (live x w) z) ∙ tallied-beside (bitOr c (readOf lent x)) w (instructionOf lent x)
+
 pub quiet-step : (lent : Lent) (x : State) (w : ℕ) → Lineless w → stepOf lent (live x w) ≡ leaving w (quietOf lent x)
 unfolding stepOf quietOf
 quiet-step lent x w q = rw (instruction-step lent (live x w) (no-line (live x w) q)) (by (instructionOf lent x))
@@ -99,36 +125,49 @@ quiet-step lent x w q = rw (instruction-step lent (live x w) (no-line (live x w)
     by (go y) = refl
     by (halt k) = refl
 
+quiet-read : (lent : Lent) (x : State) (w : ℕ) → Lineless w → stepRead lent (live x w) ≡ quietRead lent x
+quiet-read lent x w q =
+    let z = no-line (live x w) q in
+    ap₂ (λ (b : ℕ) (o : OutcomeOf Live). completed b o) (instruction-read lent (live x w) z) (instruction-step lent (live x w) z) ∙ by (instructionOf lent x)
+  where
+    by : (o : Outcome) → completed (readOf lent x) (leaving w o) ≡ completed (readOf lent x) o
+    by (go y) = refl
+    by (halt k) = refl
+
+quiet-tally : (lent : Lent) (x : State) (w c : ℕ) → Lineless w → stepTally lent (tally (live x w) c) ≡ besides w (quietTally lent (tally x c))
+quiet-tally lent x w c q =
+    ap₂ (λ (b : ℕ) (o : OutcomeOf Live). tallied (bitOr c b) o) (quiet-read lent x w q) (quiet-step lent x w q) ∙ tallied-beside (bitOr c (quietRead lent x)) w (quietOf lent x)
+
 -- where g holds w and does what f does, runs agree
-module _ (f : State → Outcome) (g : Live → OutcomeOf Live) (w : ℕ) where
-  first-agrees : (n : ℕ) (x : State) → g (live x w) ≡ leaving w (f x) → ((y : State) → runN g n (live y w) ≡ holding w (runN f n y)) → runN g (suc n) (live x w) ≡ holding w (runN f (suc n) x)
+module _ (f : Tally State → OutcomeOf (Tally State)) (g : Tally Live → OutcomeOf (Tally Live)) (w : ℕ) where
+  first-agrees : (n : ℕ) (x : Tally State) → g (beside w x) ≡ besides w (f x) → ((y : Tally State) → runN g n (beside w y) ≡ holding w (runN f n y)) → runN g (suc n) (beside w x) ≡ holding w (runN f (suc n) x)
   unfolding runN
   first-agrees n x e rest = rw e (first (f x))
     where
-      first : (o : Outcome) → next (runN g n) (live x w) (leaving w o) ≡ holding w (next (runN f n) x o)
+      first : (o : OutcomeOf (Tally State)) → next (runN g n) (beside w x) (besides w o) ≡ holding w (next (runN f n) x o)
       first (go y) = rw (rest y) refl
       first (halt k) = refl
 
-  all-agree : ((x : State) → g (live x w) ≡ leaving w (f x)) → (n : ℕ) (x : State) → runN g n (live x w) ≡ holding w (runN f n x)
+  all-agree : ((x : Tally State) → g (beside w x) ≡ besides w (f x)) → (n : ℕ) (x : Tally State) → runN g n (beside w x) ≡ holding w (runN f n x)
   unfolding runN
   all-agree e zero x = refl
   all-agree e (suc n) x = first-agrees n x (e x) (λ y. all-agree e n y)
 
 pub quiet-runs : QuietRuns
 unfolding QuietRuns
-quiet-runs lent n x w q = all-agree (quietOf lent) (stepOf lent) w (λ y. quiet-step lent y w q) n x
+quiet-runs lent n x w c q = all-agree (quietTally lent) (stepTally lent) w (λ t. quiet-tally lent (t .state) w (t .channels) q) n (tally x c)
 
 -- what is attempted are instructions: all of them, or one where a line waits and none is taken
-pub quiet-attempts : (lent : Lent) (n : ℕ) (x : State) (w : ℕ) → Lineless w → runN (attemptOf lent) n (live x w) ≡ holding w (runN (instructionOf lent) n x)
-quiet-attempts lent n x w q = all-agree (instructionOf lent) (attemptOf lent) w (λ y. instruction-step lent (live y w) (no-line (live y w) q)) n x
+pub quiet-attempts : (lent : Lent) (n : ℕ) (x : State) (w c : ℕ) → Lineless w → runN (attemptTally lent) n (tally (live x w) c) ≡ holding w (runN (instructionTally lent) n (tally x c))
+quiet-attempts lent n x w c q = all-agree (instructionTally lent) (attemptTally lent) w (λ t. instruction-tally lent (t .state) w (t .channels) (no-line (live (t .state) w) q)) n (tally x c)
 
-pub quiet-one : (lent : Lent) (x : State) (w : ℕ) → lineOf (live x w) ≡ 0 → runN (attemptOf lent) 1 (live x w) ≡ holding w (runN (instructionOf lent) 1 x)
+pub quiet-one : (lent : Lent) (x : State) (w c : ℕ) → lineOf (live x w) ≡ 0 → runN (attemptTally lent) 1 (tally (live x w) c) ≡ holding w (runN (instructionTally lent) 1 (tally x c))
 unfolding runN
-quiet-one lent x w z = first-agrees (instructionOf lent) (attemptOf lent) w 0 x (instruction-step lent (live x w) z) (λ y. refl)
+quiet-one lent x w c z = first-agrees (instructionTally lent) (attemptTally lent) w 0 (tally x c) (instruction-tally lent x w c z) (λ y. refl)
 
-pub quiet-none : (lent : Lent) (x : State) (w : ℕ) → runN (attemptOf lent) 0 (live x w) ≡ holding w (runN (instructionOf lent) 0 x)
+pub quiet-none : (lent : Lent) (x : State) (w c : ℕ) → runN (attemptTally lent) 0 (tally (live x w) c) ≡ holding w (runN (instructionTally lent) 0 (tally x c))
 unfolding runN
-quiet-none lent x w = refl
+quiet-none lent x w c = refl
 
 -- a word below 256 has no line
 pub below-lineless : (w : ℕ) → w < 256 → Lineless w

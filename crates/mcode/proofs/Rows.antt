@@ -138,7 +138,7 @@ module _ (o : ℕ → ℕ) (r : Registers) (bases : List ℕ) where
   unfolding lengths lefts left-test either decodeOf row1 row2 row3 loads stores row8 row9 row10 row11 row12 row13 row14 row15
   left-row op h l = eqb→eq (getD lefts op 0) _ (used (getD lengths op 0) _ l (at left-test lefts tt op h))
 
--- 036, 037, 256, 260, 262 and 354 are the only opcodes of their actions, and calls are those from 355 on
+-- 036, 037, 240, 256, 260, 262 and 354 are the only opcodes of their actions, and calls are those from 355 on
 abbrev pub ownOp : ℕ → Action → Bool
 ownOp op (Put v) = true
 ownOp op (AddTop b) = true
@@ -159,7 +159,7 @@ ownOp op (Two j) = true
 ownOp op (Three j) = true
 ownOp op Copy = true
 ownOp op Nothing = true
-ownOp op Read = true
+ownOp op Read = eqb op 0o240
 ownOp op Write = true
 ownOp op Trap = true
 ownOp op (Enter b) = true

@@ -404,3 +404,28 @@ stepOf lent x = handled (λ k. leaving (x .requests) (trapped lent k (x .state))
 -- the same where no line is taken
 unfoldable pub quietOf : Lent → State → Outcome
 quietOf lent x = handled (λ k. trapped lent k x) (instructionOf lent x)
+
+-- ---- the channels
+
+-- the bit of the input channel that the instruction takes if it is completed: a READ, 240, takes channel a
+abbrev pub readOf : Lent → State → ℕ
+readOf lent x =
+    let r = x .machine .registers in
+    pick (eqb (codeByte (lent .image) (moduleOf (lent .program) (r .unit)) (r .pc .0)) 0o240) (2 ^ top (x .machine)) 0
+
+-- the same where a line may be taken, which takes none
+abbrev pub attemptRead : Lent → Live → ℕ
+attemptRead lent x = pick (eqb (lineOf x) 0) (readOf lent (x .state)) 0
+
+-- the bits count where what is attempted is "completed": a trap takes none, also where it is caught
+abbrev pub completed : {S : Type 0} → ℕ → OutcomeOf S → ℕ
+completed w (go y) = w
+completed w (halt k) = 0
+
+-- the bit of the channel that the step takes, 0 where it takes none
+abbrev pub stepRead : Lent → Live → ℕ
+stepRead lent x = completed (attemptRead lent x) (attemptOf lent x)
+
+-- the same where no line is taken
+abbrev pub quietRead : Lent → State → ℕ
+quietRead lent x = completed (readOf lent x) (instructionOf lent x)

@@ -5,12 +5,22 @@ use libc::STDOUT_FILENO;
 pub fn put_usage(fd: i32) {
     io::write_all(
         fd,
-        b"usage: reading [--steps N] [--store W] [--input CH=VALUE].. [--requests WORD] [--line I].. [--after N] FILE..\n",
+        b"usage: reading [--steps N] [--store W] [--input CH=VALUE].. [--vary CH=V1,V2,..].. [--requests WORD] [--line I].. [--after N] FILE..\n",
     );
 }
 
 fn put(text: &[u8]) {
     io::write_all(STDOUT_FILENO, text);
+}
+
+fn put_vary() {
+    put(
+        b"  --vary CH=V1,V2,..  tries the reading with each of these values of channel CH, the other inputs\n",
+    );
+    put(
+        b"                    as they are, and tells whether it changes; may be given again. A channel\n",
+    );
+    put(b"                    that the reading does not take changes nothing and is not tried\n");
 }
 
 fn put_options() {
@@ -21,6 +31,7 @@ fn put_options() {
     put(b"  --store W         a store of W words, 0 to 65536 (default 4096)\n");
     put(b"  --input CH=VALUE  input channel CH, 0 to 15, holds VALUE, 0 to 65535 (default 0);\n");
     put(b"                    may be given again, a later one wins\n");
+    put_vary();
     put(b"  --requests WORD   the word of requests that the run gets, 0 to 65535 (default 0)\n");
     put(
         b"  --line I          line I, 8 to 15, is requested: bit I of that word; may be given again,\n",
@@ -54,14 +65,22 @@ fn put_lines() {
     );
     put(b"says it in words, with the place where it is known.\n\n");
     put(
-        b"The last line, caught N process P module M pc X, tells of the last caught trap, where the store\n",
+        b"The line caught N process P module M pc X tells of the last caught trap, where the store\n",
     );
     put(
         b"does: word 15 is P, and the record at P has its number (word P + 6), module and position.\n\n",
     );
+    put(
+        b"The last lines tell which inputs the reading rested on, those that its READs took: rests on no\n",
+    );
+    put(
+        b"inputs; rests on inputs given: CH=VALUE ..; rests on a guess, inputs not given: CH=0 .. Every other\n",
+    );
+    put(b"input may hold anything, and the reading is the same.\n\n");
     put(b"    reading examples/whole-reading.img\n");
     put(b"    stop 31 code 0 steps 3 module 0 pc 3 depth 0\n");
-    put(b"    0 0 7 0 0 0 0 0 0 0 0 0 0 0 0 0\n\n");
+    put(b"    0 0 7 0 0 0 0 0 0 0 0 0 0 0 0 0\n");
+    put(b"    rests on no inputs\n\n");
 }
 
 fn put_entry(number: u16) {

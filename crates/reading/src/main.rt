@@ -1,21 +1,24 @@
-// Reads images with a chosen budget, store size, inputs and requests, and prints the reading of each:
-// reading [--steps N] [--store W] [--input CH=VALUE].. [--requests WORD] [--line I].. [--after N] FILE..
+// Reads images with a chosen budget, store size, inputs and requests, and prints the reading of each, which inputs it rested on, and whether
+// it changes with others:
+// reading [--steps N] [--store W] [--input CH=VALUE].. [--vary CH=V1,V2,..].. [--requests WORD] [--line I].. [--after N] FILE..
 // An option's value may also stand in its own argument, as --steps=N. What is wrong is said on standard error, a line for each.
+mod arguments;
 mod help;
+mod read;
+mod shown;
+mod values;
+mod vary;
 
-use console::arguments;
-use console::caught::caught_in;
+use crate::read::read;
+use crate::vary::put_shown;
+use crate::vary::put_variations;
 use console::fault;
 use console::files;
 use console::files::Filled;
-use console::number::sum;
 use console::options;
 use console::options::Argument;
 use console::options::Options;
 use console::print;
-use engine::run::Ran;
-use engine::run::run;
-use in_place::reading::reading;
 use libc::STDOUT_FILENO;
 use mcode::Ending;
 ghost use Prim.Native.Nat.{_≤_};
@@ -30,79 +33,11 @@ fn store_words(chosen: usize, most: usize) -> usize
     most
 }
 
-// How a reading ended, and what is left of the requests.
-struct Known {
-    ran: Ran,
-    left: u16,
-}
-
-// The run with requests, behind the one without them, which answered `ran`; where they do not come, the requests are as given.
-fn requested(
-    ran: Ran,
-    image: &[u8],
-    map: &[u32],
-    store: &mut [u16],
-    outputs: &mut [u16],
-    inputs: &[u16],
-    options: Options,
-) -> Known {
-    let quiet = options::quiet_steps(options);
-    let ending = ran.ending;
-    if !options::comes_to_requests(options, ending) {
-        return Known {
-            ran,
-            left: options.requests,
-        };
-    }
-    let machine = ran.machine;
-    let mut next = run(
-        machine,
-        image,
-        map,
-        store,
-        outputs,
-        inputs,
-        options.steps - quiet,
-        options.requests,
-    );
-    next.count = sum(quiet, next.count);
-    let left = next.requests;
-    Known { ran: next, left }
-}
-
-// Load, start, and one run; with requests one more, in which they come.
-fn read(
-    image: &[u8],
-    map: &mut [u32],
-    store: &mut [u16],
-    outputs: &mut [u16],
-    inputs: &[u16],
-    options: Options,
-) -> Known {
-    let ran = reading(
-        image,
-        map,
-        store,
-        outputs,
-        inputs,
-        options::quiet_steps(options),
-    );
-    requested(ran, image, map, store, outputs, inputs, options)
-}
-
-// With requests a third line has what is left of them.
-fn put_left(options: Options, left: u16) {
-    if options.requests != 0 {
-        print::requests_left(left);
-    }
-}
-
-// The reading of an image, over the whole store.
+// The reading of an image, over the whole store, the inputs that it rested on, and what --vary asks.
 fn put_answer(name: &[u8], image: &mut [u8], map: &mut [u32], store: &mut [u16], options: Options) {
-    let mut outputs = [0u16; 16];
     let inputs = options.inputs;
-    let all = read(image, map, store, &mut outputs, &inputs, options);
-    let ran = all.ran;
+    let shown = read(image, map, store, inputs, options);
+    let ran = shown.ran;
     let ending = ran.ending;
     match ending {
         Ending::Refused(number) => {
@@ -110,11 +45,10 @@ fn put_answer(name: &[u8], image: &mut [u8], map: &mut [u32], store: &mut [u16],
             let place = fault::found(image, map, number);
             print::refusal(b"reading", name, number, place);
         }
-        Ending::Stopped(stop) => {
-            let machine = ran.machine;
-            print::reading(stop, ran.count, machine, outputs);
-            put_left(options, all.left);
-            print::put_caught(caught_in(image, store));
+        Ending::Stopped(_) => {
+            put_shown(shown, options);
+            print::rests_on(ran.channels, options.given, inputs);
+            put_variations(image, map, store, options, shown);
         }
     }
 }
@@ -198,7 +132,7 @@ fn main() {
     let mut image = [0u8; 65536];
     let mut map = [0u32; 65535];
     let mut store = [0u16; 65536];
-    let asked = arguments::gathered(b"reading");
+    let asked = arguments::gathered();
     if asked.help {
         help::put_help();
         return;

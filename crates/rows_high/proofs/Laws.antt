@@ -1,15 +1,19 @@
--- The opcode of a row's last arm is the one that is left of the listed ones; a fact of tests; the next place. Assumes nothing.
+-- The opcode of a row's last arm is the one that is left of the listed ones; what is no READ takes no channel; a fact of tests; the next
+-- place. Assumes nothing.
 use mathlib.Core.Path.{_≡_, refl}
 use mathlib.Core.Bool.{Bool, true, false}
 use mathlib.Core.List.{List, [], _∷_}
 use Prim.Native.Nat.{ℕ, _+_, _≤_, _<_, _/_}
 use native.Mathlib.Omega.{arith}
-use borrow.Author.Tests.{le-leb, lt-leb, le-ltb, eqb-true, eqb-false}
+use borrow.Author.Tests.{le-leb, lt-leb, le-ltb, eqb-true, eqb-false, ne-eqb}
 use lib.Dec.{eqb, ltb, leb}
 use lib.ListN.{getD}
+use lib.Bits.{or-zero-r}
 use Rattle.mcode.specs.Word.{pick, and, allBelow}
 use Rattle.mcode.specs.Opcode.{lengths}
 use Rattle.mcode.proofs.Listed.{None, among, left, one-left}
+use Rattle.actions.specs.declared.Core.{Core}
+use Rattle.actions.specs.Core.{readAt, unites}
 
 pub is202 : (op : ℕ) → op / 16 ≡ 8 → op < 0o203 → None (0o201 ∷ 0o200 ∷ []) op → op ≡ 0o202
 is202 op e h n = omega (arith, e, h, n .0 .1, n .1)
@@ -35,9 +39,9 @@ pub is226 : (op : ℕ) → op < 256 → op / 16 ≡ 9 → 1 ≤ getD lengths op 
 unfolding allBelow left among lengths
 is226 op h e l low = one-left (λ (op : ℕ). ltb op 0o223) (0o225 ∷ []) 9 0o226 op refl h e l (le-ltb op 0o223 low)
 
-pub is256 : (op : ℕ) → op < 256 → op / 16 ≡ 10 → 1 ≤ getD lengths op 0 → and (leb 0o252 op) (leb op 0o255) ≡ false → None (0o245 ∷ 0o241 ∷ 0o240 ∷ []) op → op ≡ 0o256
+pub is245 : (op : ℕ) → op < 256 → op / 16 ≡ 10 → 1 ≤ getD lengths op 0 → and (leb 0o252 op) (leb op 0o255) ≡ false → None (0o256 ∷ 0o241 ∷ 0o240 ∷ []) op → op ≡ 0o245
 unfolding allBelow left among lengths
-is256 op = one-left (λ (op : ℕ). and (leb 0o252 op) (leb op 0o255)) (0o245 ∷ 0o241 ∷ 0o240 ∷ []) 10 0o256 op refl
+is245 op = one-left (λ (op : ℕ). and (leb 0o252 op) (leb op 0o255)) (0o256 ∷ 0o241 ∷ 0o240 ∷ []) 10 0o245 op refl
 
 pub is265 : (op : ℕ) → op < 256 → op / 16 ≡ 11 → 1 ≤ getD lengths op 0 → op ≤ 0o267 → None (0o262 ∷ 0o260 ∷ []) op → op ≡ 0o265
 unfolding allBelow left among lengths
@@ -62,6 +66,14 @@ pub is336 : (op : ℕ) → op < 256 → op / 16 ≡ 13 → 1 ≤ getD lengths op
     → None (0o333 ∷ 0o332 ∷ 0o331 ∷ 0o330 ∷ 0o327 ∷ 0o323 ∷ []) op → op ≡ 0o336
 unfolding allBelow left among lengths
 is336 op h e l n = one-left (λ (op : ℕ). ltb op 0o323) (0o333 ∷ 0o332 ∷ 0o331 ∷ 0o330 ∷ 0o327 ∷ 0o323 ∷ []) 13 0o336 op refl h e l (le-ltb op 0o323 n)
+
+-- what is no READ leaves the word of channels
+pub takes-none : (op : ℕ) (r : Core) (stack : List ℕ) (stop w : ℕ) → (op ≡ 0o240 → ⊥) → w ≡ unites stop w (readAt op r stack)
+takes-none op r stack stop w n = rw (ne-eqb op 0o240 n, or-zero-r w) (same (eqb stop 0))
+  where
+    same : (t : Bool) → w ≡ pick t w w
+    same true = refl
+    same false = refl
 
 -- the next place is in the code too
 pub next-own : {s p : ℕ} → s ≤ p → s ≤ p + 1

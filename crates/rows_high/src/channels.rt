@@ -19,7 +19,7 @@ ghost use lib.ListN.{length, getD};
 ghost use Rattle.mcode.specs.Opcode.{lengths};
 ghost use Rattle.mcode.specs.Step.{Lent};
 ghost use Rattle.mcode.specs.Word.{and};
-ghost use Rattle.actions.specs.Core.{result, instruction, operandAt};
+ghost use Rattle.actions.specs.Core.{result, instruction, readAt, unites, operandAt};
 ghost use Rattle.actions.specs.Table.{Anchored, Lends, Ready};
 ghost use Rattle.control.specs.Frames.{Framed};
 ghost use Rattle.control.specs.Table.{Mapped};
@@ -45,6 +45,7 @@ pub fn row10(
     store: &mut [u16],
     inputs: &[u16],
     outputs: &mut [u16],
+    taken: &mut u16,
 ) -> Stepped
     requires { ⌜ op / 16 ≡ 10 ⌝ }
     requires { ⌜ 1 ≤ getD lengths op 0 ⌝ }
@@ -53,9 +54,12 @@ pub fn row10(
     requires { ⌜ Mapped (now table) (now map) ⌝ }
     requires { ⌜ Framed (now table) (length (now store)) r ⌝ }
     requires { ⌜ Anchored (now table) r ⌝ }
-    ensures { λ q. ⌜ ((lent : Lent) → Lends (now (image .entry)) (now (table .entry)) (now (map .entry)) (now (inputs .entry)) lent → result q (now (stack .exit)) (now (store .exit)) (now (outputs .exit)) ≡ instruction lent op (operandAt (now (image .entry)) r) r (now (stack .entry)) (now (store .entry)) (now (outputs .entry))) × Anchored (now (table .entry)) (q .core) ⌝ }
+    ensures { λ q. ⌜ ((lent : Lent) → Lends (now (image .entry)) (now (table .entry)) (now (map .entry)) (now (inputs .entry)) lent → result q (now (stack .exit)) (now (store .exit)) (now (outputs .exit)) ≡ instruction lent op (operandAt (now (image .entry)) r) r (now (stack .entry)) (now (store .entry)) (now (outputs .entry))) × (now (taken .exit) ≡ unites (q .stop) (now (taken .entry)) (readAt op r (now (stack .entry)))) × Anchored (now (table .entry)) (q .core) ⌝ }
 {
     let to = r.pc + 1;
+    if op == 0o241 {
+        return write(r, stack, outputs, to);
+    }
     if compares(op) {
         return two(
             r,
@@ -64,15 +68,16 @@ pub fn row10(
             to,
         );
     }
-    match op {
-        0o240 => read(r, stack, store, inputs, to),
-        0o241 => write(r, stack, outputs, to),
-        0o245 => three(
-            r,
-            stack,
-            within(third_of(r, stack), second_of(r, stack), top_of(r, stack)),
-            to,
-        ),
-        _ => transfer(r, table, map, stack, store, operand(r, image, 1), r.pc + 2),
+    if op == 0o256 {
+        return transfer(r, table, map, stack, store, operand(r, image, 1), r.pc + 2);
     }
+    if op == 0o240 {
+        return read(r, stack, store, inputs, taken, to);
+    }
+    three(
+        r,
+        stack,
+        within(third_of(r, stack), second_of(r, stack), top_of(r, stack)),
+        to,
+    )
 }

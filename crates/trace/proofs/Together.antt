@@ -6,12 +6,12 @@ use Prim.Native.Nat.{ℕ, _+_, _≤_}
 use lib.Dec.{leb}
 use Rattle.mcode.specs.Word.{pick}
 use Rattle.mcode.specs.Machine.{Live}
-use Rattle.mcode.specs.Run.{RunLeft, ended, refused, stopped, runN, runRefusal, runOf}
+use Rattle.mcode.specs.Run.{RunLeft, tally, ended, refused, stopped, runN, runRefusal, runOf}
 use Rattle.mcode.specs.declared.Stop.the-variants.{Spent}
 use Rattle.mcode.specs.Demands.{joined, RunsCompose}
 use Rattle.mcode.proofs.RunsCompose.{runs-compose}
 
-either : (b : Bool) (k : ℕ) (x : Live) → pick b (refused k x) (stopped (ended Spent x)) .state ≡ x
+either : (b : Bool) (k : ℕ) (x : Live) → pick b (refused k x) (stopped (ended Spent (tally x 0))) .state ≡ x
 either true k x = refl
 either false k x = refl
 

@@ -1,16 +1,16 @@
 // What the arguments ask together: what console's do, and --limit. They are judged before any file is read; the first bad one ends
 // it, with a line on standard error.
 use console::arguments::Asked;
-use console::arguments::Awaited;
 use console::arguments::awaits_value;
 use console::arguments::begun;
+use console::arguments::ended;
 use console::arguments::whole;
 use console::arguments::with_text;
 use console::number::Number;
 use console::number::decimal;
 use console::options;
 use console::print::complaint;
-use console::print::unreadable;
+use console::print::too_long;
 
 // How many steps are listed, and whether the value of --limit comes next.
 pub struct Wanted {
@@ -20,17 +20,9 @@ pub struct Wanted {
 }
 
 // A bad argument ends it.
-fn ended(wanted: Wanted) -> Wanted {
+fn refused(wanted: Wanted) -> Wanted {
     let asked = wanted.asked;
-    let options = asked.options;
-    let awaited = Awaited::Nothing;
-    let bad = Asked {
-        options,
-        files: asked.files,
-        awaited,
-        help: false,
-        bad: true,
-    };
+    let bad = ended(asked, false);
     Wanted {
         asked: bad,
         limit: wanted.limit,
@@ -55,7 +47,7 @@ fn with_limit(before: Wanted, text: &[u8]) -> Wanted {
                 text,
                 b"--limit takes a number from 0 to 4294967295",
             );
-            ended(before)
+            refused(before)
         }
     }
 }
@@ -103,8 +95,8 @@ fn with_argument(before: Wanted, i: usize) -> Wanted {
     let mut text = io::buffer();
     let n = os::arg(i, &mut text);
     if os::errno() != 0 {
-        unreadable(b"trace", b"argument");
-        return ended(before);
+        too_long(b"trace", i);
+        return refused(before);
     }
     with_word(before, &text[..n])
 }
@@ -117,7 +109,7 @@ fn complete(before: Wanted) -> Wanted {
             b"--limit",
             b"a number from 0 to 4294967295 must follow",
         );
-        return ended(before);
+        return refused(before);
     }
     let last = before.asked;
     let asked = whole(b"trace", last);

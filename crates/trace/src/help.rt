@@ -46,6 +46,6 @@ pub fn put_help() {
     text(b"it in word P + 6, and the processes that it left and entered.\n\n");
     text(b"The instruction at which the run stops is no step, and has - for its number. At\n");
     text(b"the end stand the stop in words and the lines of the reading: its two; with\n");
-    text(b"requests what is left of them; and the last caught trap, where the store tells\n");
-    text(b"of one.\n");
+    text(b"requests what is left of them; the last caught trap, where the store tells of\n");
+    text(b"one; and which inputs the reading rested on, given and not given.\n");
 }

@@ -24,6 +24,7 @@ use console::print::reading;
 use console::print::refusal;
 use console::print::refused_as;
 use console::print::requests_left;
+use console::print::rests_on;
 use console::words;
 use engine::run::Ran;
 use libc::STDERR_FILENO;
@@ -92,12 +93,16 @@ fn put_left(options: Options, left: u16) {
     }
 }
 
-// Where the store tells of a caught trap, the last line does.
-fn put_last(ran: Ran, image: &[u8], store: &[u16]) {
+// Where the store tells of a caught trap, a line does; the last ones say which inputs the reading rested on.
+fn put_last(ran: Ran, image: &[u8], store: &[u16], options: Options) {
     let ending = ran.ending;
     match ending {
         Ending::Refused(_) => {}
-        Ending::Stopped(_) => put_caught(caught_in(image, store)),
+        Ending::Stopped(_) => {
+            put_caught(caught_in(image, store));
+            let inputs = options.inputs;
+            rests_on(ran.channels, options.given, inputs);
+        }
     }
 }
 
@@ -150,6 +155,7 @@ fn requested(
         used,
     );
     next.count = sum(quiet, next.count);
+    next.channels = ran.channels | next.channels;
     let left = next.requests;
     Traced { ran: next, left }
 }
@@ -209,7 +215,7 @@ fn put_steps(
         let end = all.ran;
         put_end(end, outputs);
         put_left(options, all.left);
-        put_last(end, image, store);
+        put_last(end, image, store, options);
     }
 }
 

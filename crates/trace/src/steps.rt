@@ -13,7 +13,7 @@ ghost use Rattle.mcode.specs.Run.{runOf};
 ghost use Rattle.mcode.specs.Demands.{joined};
 ghost use Rattle.engine.specs.Ran.{answered};
 
-// Up to m steps more, with the requests that are left; their counts add.
+// Up to m steps more, with the requests that are left; their counts add, and the channels are united.
 fn more(
     ran: Ran,
     image: &[u8],
@@ -35,6 +35,7 @@ fn more(
         count: ran.count + next.count,
         machine: after,
         requests: next.requests,
+        channels: ran.channels | next.channels,
     }
 }
 

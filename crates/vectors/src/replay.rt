@@ -124,6 +124,7 @@ fn print_ran(text: &mut [u8; 4096], at: usize, ran: Ran, outputs: &[u16], store:
     next = put_named(text, next, b" code", code_of(ending) as u64);
     next = put_named(text, next, b" count", ran.count as u64);
     next = put_named(text, next, b" requests", ran.requests as u64);
+    next = put_named(text, next, b" channels", ran.channels as u64);
     next = print_machine(text, next, machine);
     next = put_text(text, next, b" outputs");
     next = put_words(text, next, outputs);

@@ -34,10 +34,6 @@ fn write(address: u16, word: u16) -> [u8; 7] {
     [LIW, a, b, LIW, c, d, SSW0]
 }
 
-const LIW: u8 = 0o022;
-const WRITE: u8 = 0o241;
-const UDIV: u8 = 0o273;
-
 /// The words of a process without words at a record, at the beginning of a module.
 fn process(rng: &mut Rng, record: u16, base: u16, l: u16) -> Vec<(u16, u16)> {
     let s = record + STACK + rng.below(9) as u16;
@@ -52,10 +48,10 @@ fn process(rng: &mut Rng, record: u16, base: u16, l: u16) -> Vec<(u16, u16)> {
 const TRAPS: [(&[u8], usize); 6] = [
     (&[3, TRAP], 1),
     (&[5, 0, UDIV, JPB, 1], 2),
-    (&[LIW, 255, 255, 0o140, JPB, 1], 1),
+    (&[LIW, 255, 255, LSW0, JPB, 1], 1),
     (&[LIB, 16, 1, WRITE, JPB, 1], 2),
-    (&[6, 5, 0o306, JPB, 1], 2),
-    (&[LIW, 128, 0, 0o316, JPB, 1], 1),
+    (&[6, 5, CHKZ, JPB, 1], 2),
+    (&[LIW, 128, 0, ABS, JPB, 1], 1),
 ];
 
 /// Three processes, each in a module of its own. The first ones name the next and trap.

@@ -201,6 +201,7 @@ impl Writer<'_> {
         let opcode = match self.rng.below(12) {
             0..=3 => self.rng.pick(&CONTROL),
             4 => return self.counter(),
+            5 if self.rng.once_in(2) => READ,
             _ => self.listed(),
         };
         self.instruction(opcode, fuel);

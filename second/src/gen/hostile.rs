@@ -1,5 +1,5 @@
-//! Cases of A.7 and A.8: requests of all kinds and any word 14, where machines, stores
-//! and programs were not made for them.
+//! Cases of A.7 to A.9: requests of all kinds, any word 14 and READs, where machines,
+//! stores and programs were not made for them.
 
 use super::code::{some_word, PROCESS_NAMES, PROCESS_NAME_COUNT};
 use super::lines::{any_line, line_world};
@@ -9,12 +9,13 @@ use super::{case_of, plain_run, Scale};
 use crate::case::{Case, CaseRun};
 use crate::collisions::{record, saved_stack};
 use crate::machine::Machine;
+use crate::opcode::READ;
 use crate::request::*;
 use std::ops::Range;
 
 /// Machines and stores as no program need have made them, with requests: words 2i and
 /// word 14 name good and bad processes, which collide with these words, word 3, the own
-/// record, the saved stack and one another.
+/// record, the saved stack and one another. READs write to these words too.
 pub fn hostile_case(rng: &mut Rng, scale: &Scale) -> Case {
     let world = line_world(rng, scale);
     let mut case = case_of(rng, world.image.clone(), world.words);
@@ -22,16 +23,21 @@ pub fn hostile_case(rng: &mut Rng, scale: &Scale) -> Case {
         let budget = rng.pick(&[0, 1, 1, 1, 1, 2, 3, 10]);
         let mut run = plain_run(rng, budget);
         if i == 0 || !rng.once_in(4) {
-            world.set_state(rng, None, &mut run);
-            set_lines(rng, &world, &mut run);
+            let reads = rng.once_in(4);
+            world.set_state(rng, reads.then_some(READ), &mut run);
+            set_lines(rng, &world, reads, &mut run);
+        }
+        if rng.once_in(32) {
+            run.inputs.truncate(rng.below(16));
         }
         case.runs.push(run);
     }
     case
 }
 
-/// Requests, and words of the store that decide what becomes of them.
-fn set_lines(rng: &mut Rng, world: &World, run: &mut CaseRun) {
+/// Requests, and words of the store that decide what becomes of them. A READ mostly has
+/// one of these words as its address.
+fn set_lines(rng: &mut Rng, world: &World, reads: bool, run: &mut CaseRun) {
     let requests = any_requests(rng);
     run.requests = Some(requests);
     let mut machine = run.machine.expect("it was set");
@@ -63,6 +69,11 @@ fn set_lines(rng: &mut Rng, world: &World, run: &mut CaseRun) {
     let (some, one) = (rng.word() & rng.word(), bit(any_line(rng)));
     let held = rng.pick(&[0, some, one]);
     run.store_patches.push((HELD as u16, held));
+    if reads && !rng.once_in(4) {
+        let range = rng.pick(&[&own, &saved, &low]);
+        let depth = usize::from(machine.depth);
+        machine.stack[depth - 2] = near(rng, range, 1) as u16;
+    }
     run.machine = Some(machine);
 }
 
@@ -96,7 +107,7 @@ fn hostile_target(
 }
 
 /// Word 14.
-const TRAP_TARGET: u16 = Machine::TRAP_TARGET as u16;
+pub const TRAP_TARGET: u16 = Machine::TRAP_TARGET as u16;
 
 /// Gives a few runs any word 14: often one of the words that they patch, which may name
 /// a process. Mostly it stays for that run alone.

@@ -11,7 +11,7 @@ use crate::collisions::record;
 use crate::image::{Procedure, ONLY_PROCEDURE};
 use crate::machine::Machine;
 use crate::mark::{Saved, MOST, MOST_SAVED};
-use crate::opcode::{JPB, NOP, RTN, SSW0, TRA, TRAP};
+use crate::opcode::{JPB, NOP, READ, RTN, SSW0, TRA, TRAP};
 use crate::request::*;
 use std::ops::Range;
 
@@ -55,15 +55,16 @@ pub fn line_world(rng: &mut Rng, scale: &Scale) -> World {
 }
 
 /// More procedures: 16 literals and a TRAP; a jump back; a RTN; one that clears
-/// word 3 again and again; and a transfer.
+/// word 3 again and again; a transfer; and a READ.
 pub fn add_places(rng: &mut Rng, module: &mut Source) {
     let steps = [literals(rng, MOST.into()), vec![TRAP]].concat();
-    let codes: [&[u8]; 5] = [
+    let codes: [&[u8]; 6] = [
         &steps,
         &[NOP, JPB, 2],
         &[RTN],
         &[3, 0, SSW0, JPB, 4],
         &[0, 0, TRA, 1, JPB, 5],
+        &[3, 0, READ, JPB, 4],
     ];
     for code in codes {
         let entry = module.code.len() as u16;

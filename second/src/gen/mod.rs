@@ -1,6 +1,7 @@
 //! The seeded generator of cases. Case `index` of a seed is always the same.
 
 mod caught;
+mod channels;
 mod code;
 mod expression;
 mod fault;
@@ -87,7 +88,7 @@ pub const SMALL: Scale = Scale {
 };
 
 /// The cases of a round, each of a kind of its own or one of several.
-pub const ROUND: u64 = 51;
+pub const ROUND: u64 = 52;
 
 /// One case of a seed.
 pub fn case(scale: &Scale, seed: u64, index: u64) -> Case {
@@ -131,6 +132,7 @@ pub fn case(scale: &Scale, seed: u64, index: u64) -> Case {
         48 => traps::collisions_case(rng, scale, round as usize),
         49 => traps::fates_case(rng, scale, round as usize),
         50 => caught::turn_case(rng, scale, round as usize),
+        51 => channels::turn_case(rng, scale, round as usize),
         _ => sizes_case(rng, scale),
     };
     // The others are made run by run.
@@ -138,7 +140,10 @@ pub fn case(scale: &Scale, seed: u64, index: u64) -> Case {
         give_requests(rng, &mut case.runs);
         hostile::give_word_14(rng, &mut case.runs, case.store_length);
     }
-    keep_inputs(rng, scale, &mut case.runs);
+    // The last ones have inputs that were made for them.
+    if index % ROUND != 51 {
+        keep_inputs(rng, scale, &mut case.runs);
+    }
     case
 }
 

@@ -276,15 +276,16 @@ pub fn refused_case(rng: &mut Rng, turn: usize) -> Case {
     case
 }
 
-/// Runs refused with 10, 11 and 12, and one that is not.
-fn lent_runs(rng: &mut Rng, words: usize, image: &[u8]) -> Vec<CaseRun> {
+/// Runs refused with 10, 11 and 12, and one that is not, of an image whose code begins at
+/// byte 4, with no marks at 1 and 2.
+pub fn lent_runs(rng: &mut Rng, words: usize, image: &[u8]) -> Vec<CaseRun> {
     let mut runs = vec![plain_run(rng, 5); 4];
     runs[0].inputs.truncate(rng.below(16));
     let (_, machine) = api::start(image, &mut vec![0; words]);
-    let pc = rng.within(1, 9) as u16;
+    let pc = rng.within(1, 2) as u16;
     runs[1].machine = Some(Machine { pc, ..machine });
     runs[2].machine = Some(machine);
-    // The RTN at byte 4.
+    // Position 0, at byte 4.
     runs[2].map_patches = vec![(4, 1)];
     runs[3].map_patches = vec![(4, 0)];
     runs

@@ -31,21 +31,86 @@ fn file(name: &str, content: &[u8]) -> PathBuf {
 const EXAMPLE: [u8; 8] = [0x01, 0x00, 0x00, 0x04, 0x02, 0x07, 0xA1, 0xEC];
 const READING: &str =
     "stop 31 code 0 steps 3 module 0 pc 3 depth 0\n0 0 7 0 0 0 0 0 0 0 0 0 0 0 0 0\n";
+/// The last line where no READ is completed.
+const NO_INPUTS: &str = "rests on no inputs\n";
 
 #[test]
 fn reading() {
-    let output = second(&["reading"], &EXAMPLE);
-    assert_eq!(
-        (text(&output.stdout), output.status.code()),
-        (READING, Some(0))
-    );
     let path = file("example", &EXAMPLE);
-    let output = second(&["reading", path.to_str().unwrap()], &[]);
-    assert_eq!(
-        (text(&output.stdout), output.status.code()),
-        (READING, Some(0))
-    );
+    for (arguments, input) in [
+        (&["reading"][..], &EXAMPLE[..]),
+        (&["reading", path.to_str().unwrap()], &[]),
+    ] {
+        let output = second(arguments, input);
+        let answer = (text(&output.stdout), output.status.code());
+        assert_eq!(answer, (&format!("{READING}{NO_INPUTS}")[..], Some(0)));
+    }
     assert_eq!(text(&second(&["reading"], &[]).stdout), "refused 1\n");
+}
+
+/// A program that reads channel 5, and then channel 1 if that is not 0. Inputs that are
+/// not given are 0, and a later one of the same channel holds.
+#[test]
+fn reading_with_inputs() {
+    // LGA 3, LI5, READ, LGW3, JPFC to the RTN, LGA 3, LI1, READ, LI2, LGW3, WRITE, RTN.
+    let code = [
+        &[0o025, 3, 5, 0o240, 0o103, 0o032, 8][..],
+        &[0o025, 3, 1, 0o240, 2, 0o103, 0o241, 0o354],
+    ]
+    .concat();
+    let image = [&[1, 1, 0, 1, 0, code.len() as u8], &code[..]].concat();
+    let check = |options: &[&str], steps: u32, output: u16, rests_on: &str| {
+        let answer = second(&[&["reading"], options].concat(), &image);
+        let zeros = ["0"; 13].join(" ");
+        let expected = format!(
+            "stop 31 code 0 steps {steps} module 0 pc 14 depth 0\n0 0 {output} {zeros}\n\
+             rests on {rests_on}\n"
+        );
+        assert_eq!(text(&answer.stdout), expected, "{options:?}");
+    };
+    check(&[], 5, 0, "a guess, inputs not given: 5=0");
+    check(&["--input", "5=0"], 5, 0, "inputs given: 5=0");
+    check(
+        &["--input", "5=7", "--input", "5=0"],
+        5,
+        0,
+        "inputs given: 5=0",
+    );
+    // What is given and not read is not told.
+    let others = ["--input", "1=200", "--input", "0=65535", "--input", "15=1"];
+    check(&others, 5, 0, "a guess, inputs not given: 5=0");
+    let both = ["--input", "5=7", "--input", "1=200"];
+    check(&both, 11, 200, "inputs given: 1=200 5=7");
+    let one = "inputs given: 5=7\nrests on a guess, inputs not given: 1=0";
+    check(&both[..2], 11, 0, one);
+    let output = second(&["reading", "--input", "5=7"], &image[..9]);
+    assert_eq!(text(&output.stdout), "refused 3\n");
+}
+
+/// The inputs come last, and are those of both runs. The main program reads channel 0
+/// into word 2, makes a process at 200 that begins at 40, names it in word 14, and traps
+/// with 5; the trap process reads channel 3 and traps, which stops it.
+#[test]
+fn reading_tells_of_inputs_last() {
+    let mut code = vec![2, 0, 0o240];
+    for (address, word) in [(200, 128), (202, 40), (204, 221), (205, 4096), (14, 200)] {
+        let ([a, b], [c, d]) = (u16::to_be_bytes(address), u16::to_be_bytes(word));
+        code.extend([0o022, a, b, 0o022, c, d, 0o160]);
+    }
+    code.extend([5, 0o304]);
+    code.extend([2, 3, 0o240, 0, 0o304]);
+    let header = [1, 2, 2, 0, code.len() as u8, 0, 0, 0, 0, 0, 40, 0, 0];
+    let image = [&header[..], &code].concat();
+    let options = ["--input", "0=9", "--requests", "1", "--after", "20"];
+    let output = second(&[&["reading"], &options[..]].concat(), &image);
+    let lines: Vec<&str> = text(&output.stdout).lines().skip(2).collect();
+    let expected = [
+        "requests 1",
+        "caught 40 process 131 module 0 pc 39",
+        "rests on inputs given: 0=9",
+        "rests on a guess, inputs not given: 3=0",
+    ];
+    assert_eq!(lines, expected);
 }
 
 /// With requests a third line has what is left of them. The vectors are zeros, so a
@@ -64,11 +129,13 @@ fn reading_with_requests() {
             assert_eq!(answer, (expected, Some(0)));
         }
     };
-    check("0", READING);
-    check("255", &format!("{READING}requests 255\n"));
+    check("0", &format!("{READING}{NO_INPUTS}"));
+    check("255", &format!("{READING}requests 255\n{NO_INPUTS}"));
     let zeros = ["0"; 16].join(" ");
     let failed = |word: &str| {
-        format!("stop 35 code 0 steps 0 module 0 pc 0 depth 0\n{zeros}\nrequests {word}\n")
+        format!(
+            "stop 35 code 0 steps 0 module 0 pc 0 depth 0\n{zeros}\nrequests {word}\n{NO_INPUTS}"
+        )
     };
     check("256", &failed("256"));
     check("65535", &failed("65535"));
@@ -76,7 +143,7 @@ fn reading_with_requests() {
     assert_eq!(text(&output.stdout), "refused 3\n");
 }
 
-/// A caught trap is told in a last line. The program makes a process at 200 that begins
+/// A caught trap is told in a line. The program makes a process at 200 that begins
 /// as it does itself, names it in word 14, and traps with 5: first in process 131, then in
 /// the trap process, where it stops.
 #[test]
@@ -93,9 +160,10 @@ fn reading_tells_of_a_caught_trap() {
     let reading = format!("stop 40 code 5 steps 33 module 0 pc 36 depth 1\n{zeros}\n");
     let caught = "caught 40 process 131 module 0 pc 36\n";
     let output = second(&["reading"], &image);
-    assert_eq!(text(&output.stdout), format!("{reading}{caught}"));
+    let expected = format!("{reading}{caught}{NO_INPUTS}");
+    assert_eq!(text(&output.stdout), expected);
     let output = second(&["reading", "--requests", "1", "--after", "9"], &image);
-    let expected = format!("{reading}requests 1\n{caught}");
+    let expected = format!("{reading}requests 1\n{caught}{NO_INPUTS}");
     assert_eq!(text(&output.stdout), expected);
 }
 
@@ -104,11 +172,13 @@ fn reading_tells_of_a_caught_trap() {
 #[test]
 fn reading_with_requests_later() {
     let outputs = &READING[READING.find('\n').unwrap()..];
-    let before_end = format!("stop 35 code 0 steps 3 module 0 pc 3 depth 0{outputs}requests 256\n");
-    let never = format!("{READING}requests 256\n");
+    let requests = format!("requests 256\n{NO_INPUTS}");
+    let before_end = format!("stop 35 code 0 steps 3 module 0 pc 3 depth 0{outputs}{requests}");
+    let never = format!("{READING}{requests}");
+    let plain = format!("{READING}{NO_INPUTS}");
     for (arguments, expected) in [
-        (&["--after", "3"][..], READING),
-        (&["--requests", "0", "--after", "3"], READING),
+        (&["--after", "3"][..], &plain),
+        (&["--requests", "0", "--after", "3"], &plain),
         (&["--requests", "256", "--after", "3"], &before_end),
         (&["--after", "3", "--requests", "256"], &before_end),
         (
@@ -120,7 +190,7 @@ fn reading_with_requests_later() {
     ] {
         let output = second(&[&["reading"], arguments].concat(), &EXAMPLE);
         let answer = (text(&output.stdout), output.status.code());
-        assert_eq!(answer, (expected, Some(0)), "{arguments:?}");
+        assert_eq!(answer, (&expected[..], Some(0)), "{arguments:?}");
     }
 }
 
@@ -233,6 +303,8 @@ fn small_cases_and_their_coverage() {
     assert!(text(&output.stdout).contains(sum));
     let line = "missing: no steps of line 8\n";
     assert!(text(&output.stdout).contains(line));
+    let read = "missing: no READs of channel 8\n";
+    assert!(text(&output.stdout).contains(read));
 }
 
 #[test]
@@ -274,6 +346,24 @@ fn errors_are_one_line_and_status_2() {
         &["reading", "--after", "4294967296"],
         &["reading", "--requests", "1", "--after"],
         &["reading", "--requests", "--after", "1"],
+        &["reading", "--input"],
+        &["reading", "--input", ""],
+        &["reading", "--input", "="],
+        &["reading", "--input", "1"],
+        &["reading", "--input", "1="],
+        &["reading", "--input", "=1"],
+        &["reading", "--input", "16=1"],
+        &["reading", "--input", "1=65536"],
+        &["reading", "--input", "-1=1"],
+        &["reading", "--input", "1=-1"],
+        &["reading", "--input", "1=+1"],
+        &["reading", "--input", "1=0x1"],
+        &["reading", "--input", "1 = 1"],
+        &["reading", "--input", "1=1=1"],
+        &["reading", "--input", "1=1,2=2"],
+        &["reading", "--input", "1=1", "--input"],
+        &["reading", "--input", "1=1", missing],
+        &["reading", no_file, "--input", "1=1"],
         &["reading", "--seed", "1"],
         &["map"],
         &["map", missing],

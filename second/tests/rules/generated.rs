@@ -1,11 +1,12 @@
 //! The generator, its cases and their file; laws that hold in every case.
 
+use crate::channel_kinds::is_of_channels;
 use crate::line_kinds::is_of_lines;
-use crate::rig::FF;
+use crate::rig::{channels_of_step, FF};
 use crate::trap_kinds::is_of_traps;
 use second::api::{run_observed, Buffers};
 use second::assemble::{self, Source};
-use second::case::{decode, encode, replay, Case, CaseRun, Checksum};
+use second::case::{decode, encode, replay, Case, CaseRun, Checksum, RunOutcome};
 use second::coverage::{Coverage, Steps};
 use second::depths::fits;
 use second::gen::{self, Scale, FULL, ROUND, SMALL};
@@ -143,6 +144,22 @@ fn everything_is_covered() {
         of_traps.count(),
         9 + opcodes + 8 + 60 + 18 + 11 + 14 + 14 + 3 + 4
     );
+    // What A.9 makes of READs: sixteen channels, three ways to fail, words that the
+    // machine goes by; and of the word of a run.
+    assert_eq!(beginning("no READs of channel "), 16);
+    assert_eq!(beginning("no READs stopped with "), 3);
+    assert_eq!(beginning("no READs caught with "), 3);
+    assert_eq!(beginning("no READs into "), 12);
+    assert_eq!(beginning("no words of channels with "), 4);
+    assert_eq!(beginning("no runs with a channel stopped with "), 11);
+    assert_eq!(beginning("no runs spent "), 2);
+    assert_eq!(beginning("no runs behind one "), 3 + 3);
+    let of_channels = faults.iter().filter(|fault| is_of_channels(fault));
+    let others = 7;
+    assert_eq!(
+        of_channels.count(),
+        16 + 3 + 3 + 12 + others + 4 + 11 + 2 + 6
+    );
 }
 
 /// A module, and entry, parameters and results of its procedures.
@@ -158,7 +175,7 @@ pub fn module_of(procedures: &[(u16, u8, u8)], code: &[u8]) -> Source {
     }
 }
 
-/// A case of one module, with 16 inputs in each run.
+/// A case of one module, with 16 inputs in each run that has none.
 pub fn case_of(procedures: &[(u16, u8, u8)], code: &[u8], runs: &[CaseRun]) -> Case {
     case_of_modules(&[module_of(procedures, code)], runs)
 }
@@ -166,7 +183,9 @@ pub fn case_of(procedures: &[(u16, u8, u8)], code: &[u8], runs: &[CaseRun]) -> C
 pub fn case_of_modules(modules: &[Source], runs: &[CaseRun]) -> Case {
     let image = assemble::encode(modules);
     let mut runs = runs.to_vec();
-    runs.iter_mut().for_each(|run| run.inputs = vec![0; 16]);
+    for run in runs.iter_mut().filter(|run| run.inputs.is_empty()) {
+        run.inputs = vec![0; 16];
+    }
     Case {
         map_length: image.len(),
         image,
@@ -1005,6 +1024,155 @@ fn written(program: &Program, old: &Machine, trap: u8, before: &[u16]) -> Vec<u1
     store
 }
 
+/// The cases of A.9 in so many rounds that each has had its turn, but for those where
+/// this is left of the round divided by 4.
+fn cases_of_channels(
+    scale: &Scale,
+    seed: u64,
+    left_out: Option<u64>,
+) -> impl Iterator<Item = Case> + '_ {
+    let rounds = (0..36).filter(move |round| left_out != Some(round % 4));
+    rounds.map(move |round| gen::case(scale, seed, ROUND * round + 51))
+}
+
+fn missing_channels(cases: impl Iterator<Item = Case>) -> Vec<String> {
+    let mut missing = Coverage::of(cases).faults();
+    missing.retain(|fault| is_of_channels(fault));
+    missing
+}
+
+/// They have every kind, whatever the seed.
+#[test]
+fn channels_are_generated() {
+    let seeds = (1..=24).map(|seed| (&SMALL, seed));
+    for (scale, seed) in seeds.chain([(&FULL, 1)]) {
+        let missing = missing_channels(cases_of_channels(scale, seed, None));
+        assert_eq!(missing, [""; 0], "seed {seed}");
+    }
+}
+
+/// Without the cases of one kind, something is missing.
+#[test]
+fn kinds_of_channels_are_needed() {
+    let check = |left_out: u64, expected: &[&str]| {
+        let missing = missing_channels(cases_of_channels(&SMALL, SEED, Some(left_out)));
+        for kind in expected {
+            assert!(missing.contains(&format!("no {kind}")), "{missing:?}");
+        }
+    };
+    check(
+        0,
+        &[
+            "READs of channel 0",
+            "READs of channel 15",
+            "READs stopped with 39 and an address outside",
+            "READs caught with 39 and an address outside",
+        ],
+    );
+    check(
+        1,
+        &[
+            "READs into the return mark of a RTN that stops with 34",
+            "READs into the count of a LODFW that stops with 34",
+            "READs into the target of a TRA that stops with 35",
+            "words of channels with 16 bits",
+            "runs with a channel stopped with 33",
+            "runs with a channel stopped with 40",
+        ],
+    );
+    check(
+        2,
+        &[
+            "READs behind a line",
+            "READs behind a caught READ",
+            "READs behind a line, and then behind a caught trap",
+            "READs behind a caught trap, and then behind a line",
+            "READs into word 3, before a line that it held",
+            "READs into word 2i, before line i that fails",
+            "READs into word 14, before a trap that is caught",
+            "READs into the words of a process that catches a trap",
+        ],
+    );
+    check(
+        3,
+        &[
+            "runs behind one with a channel refused with 10",
+            "runs behind one with a channel refused with 11",
+            "runs behind one with a channel refused with 12",
+        ],
+    );
+}
+
+/// The outcomes of the cases of A.9 of a kind.
+fn outcomes_of_channels(kind: u64) -> impl Iterator<Item = Vec<RunOutcome>> {
+    let rounds = (0..36).filter(move |round| round % 4 == kind);
+    rounds.map(|round| {
+        let case = gen::case(&SMALL, SEED, ROUND * round + 51);
+        replay(&case, &mut ()).runs
+    })
+}
+
+/// The same stop and word, and what is left, also in parts; a program that is spent goes
+/// on where it is.
+fn assert_same_end(whole: &RunOutcome, parts: &[RunOutcome]) {
+    let united = parts.iter().fold(0, |word, run| word | run.answer.channels);
+    let last = &parts[parts.len() - 1];
+    assert_eq!(united, whole.answer.channels);
+    assert_eq!(last.answer.number, whole.answer.number);
+    assert_eq!(last.answer.machine, whole.answer.machine);
+    assert_eq!(last.after, whole.after);
+}
+
+/// Programs stop in turn with what their last READ decides, also with other inputs in
+/// channels that they do not read, and in parts.
+#[test]
+fn programs_that_read_stop_in_turn() {
+    let programs = outcomes_of_channels(1).flat_map(|runs| {
+        let programs = runs.chunks(5).map(|runs| runs.to_vec());
+        programs.collect::<Vec<_>>()
+    });
+    let stops = [30, 31, 32, 33, 34, 35, 36, 37, 38, 39, 40, 34];
+    for (runs, stop) in programs.zip(stops.into_iter().cycle()) {
+        assert_eq!(runs[0].answer.number, stop);
+        assert_eq!(runs[0].answer, runs[1].answer);
+        assert_same_end(&runs[0], &runs[1..2]);
+        assert_same_end(&runs[0], &runs[2..]);
+    }
+}
+
+/// Processes lead on by a line and by a trap to an end; not with another word 2i or 14.
+#[test]
+fn processes_that_read_lead_on() {
+    for runs in outcomes_of_channels(2) {
+        let whole = &runs[0];
+        assert_eq!((whole.answer.number, whole.caught.len()), (31, 1));
+        assert_eq!(whole.taken().count_ones(), 1);
+        assert_eq!(whole.answer, runs[1].answer);
+        assert_same_end(whole, &runs[1..2]);
+        assert_eq!(runs[2].answer.number, 35);
+        assert!(runs[2].failed().is_some() && runs[2].taken() == 0);
+        assert!(matches!(runs[3].answer.number, 32 | 39));
+        assert_eq!(runs[3].caught, []);
+        assert_same_end(whole, &runs[4..]);
+    }
+}
+
+/// The READs that an outcome keeps are those that were done, and their channels are the
+/// word.
+#[test]
+fn reads_are_kept() {
+    let (mut steps, mut kept) = (Steps::NONE, 0);
+    for case in gen::cases(&SMALL, SEED, 3008) {
+        for run in replay(&case, &mut steps).runs {
+            let channels = run.reads.iter().map(|read| 1 << read.channel);
+            let word = channels.fold(0, |word, bit: u16| word | bit);
+            assert_eq!(word, run.answer.channels);
+            kept += run.reads.len() as u64;
+        }
+    }
+    assert_eq!(kept, steps.opcodes[0o240]);
+}
+
 /// Any word 14 comes in cases of other kinds, and most traps of these are stops.
 #[test]
 fn other_cases_catch_few_traps() {
@@ -1159,9 +1327,9 @@ fn an_outcome_is_printed_in_lines() {
     assert!(lines[0].ends_with(" machine 0 0 0 131 139 143 143 0 stack"));
     let outputs = "outputs 3 3 7 3 3 3 3 3 3 3 3 3 3 3 3 3 store ";
     let machine = "machine 0 3 0 131 139 143 143 0 stack";
-    let stopped = format!("run 31 code 0 count 3 requests 255 {machine} {outputs}");
+    let stopped = format!("run 31 code 0 count 3 requests 255 channels 0 {machine} {outputs}");
     assert!(lines[1].starts_with(&stopped), "{}", lines[1]);
-    let refused = format!("run 10 code 0 count 0 requests 255 {machine} {outputs}");
+    let refused = format!("run 10 code 0 count 0 requests 255 channels 0 {machine} {outputs}");
     assert!(lines[2].starts_with(&refused), "{}", lines[2]);
 }
 
@@ -1193,7 +1361,7 @@ fn a_stack_is_printed_without_its_last_zeros() {
         ..Case::default()
     };
     let text = replay(&case, &mut ()).to_string();
-    let run = "run 1 code 0 count 0 requests 0 machine 0 0 0 0 0 0 0 0 stack 0 5 outputs store 1 1";
+    let run = "run 1 code 0 count 0 requests 0 channels 0 machine 0 0 0 0 0 0 0 0 stack 0 5 outputs store 1 1";
     assert!(text.contains(&format!("\n{run}\n")));
 }
 
@@ -1307,10 +1475,11 @@ fn lent_result_counts_are_generated() {
 
 /// "n + m where two runs are compared, m at least 1; their counts add." A.7:
 /// "Running n and then m agrees with n + m if the second call gets the word the
-/// first returned."
+/// first returned." A.9: "the two channel words are united".
 #[test]
 fn n_and_then_m_is_n_plus_m() {
-    for_each_run(gen::cases(&FULL, 11, 700), |case, map, run, before| {
+    let cases = gen::cases(&FULL, 11, 700).chain(cases_of_channels(&SMALL, SEED, None));
+    for_each_run(cases, |case, map, run, before| {
         let mut whole = before.clone();
         let total = whole.run(case, map, &run.inputs, run.budget);
         if total.number < 30 {
@@ -1332,23 +1501,92 @@ fn n_and_then_m_is_n_plus_m() {
             let second = parts.run(case, map, &run.inputs, run.budget - n);
             assert_eq!(first.count + second.count, total.count);
             assert_eq!((second.number, second.code), (total.number, total.code));
+            assert_eq!(first.channels | second.channels, total.channels);
             assert_eq!(parts, whole);
         }
     });
 }
 
+/// Inputs with other words in these channels.
+fn changed(inputs: &[u16], channels: u16) -> Vec<u16> {
+    let words = inputs.iter().enumerate();
+    words
+        .map(|(channel, &word)| match channels >> channel & 1 {
+            0 => word,
+            _ => !word,
+        })
+        .collect()
+}
+
+/// Runs each run of cases that is not refused again, with other words in channels that
+/// depend on its word. Answers how many of those with a word give the same answer, store
+/// and outputs, and how many do not.
+fn run_again(cases: impl Iterator<Item = Case>, channels: fn(u16) -> u16) -> [u32; 2] {
+    let counts = Cell::new([0; 2]);
+    for_each_run(cases, |case, map, run, before| {
+        let mut first = before.clone();
+        let answer = first.run(case, map, &run.inputs, run.budget);
+        if answer.number < 30 || answer.channels == 0 {
+            return;
+        }
+        let inputs = changed(&run.inputs, channels(answer.channels));
+        let mut second = before.clone();
+        let is_same = second.run(case, map, &inputs, run.budget) == answer && second == first;
+        let mut count = counts.get();
+        count[usize::from(!is_same)] += 1;
+        counts.set(count);
+    });
+    counts.get()
+}
+
+/// Cases with many READs.
+fn cases_that_read() -> impl Iterator<Item = Case> {
+    let others = gen::cases(&FULL, 16, 700);
+    others.chain(gen::cases(&SMALL, SEED, 3008))
+}
+
+/// "Two runs with the same image, map, budget, machine, store, outputs and requests, whose
+/// inputs are 16 words each and agree on the channels of the first run's word, must give
+/// the same stop, count, machine, store, outputs and words."
+#[test]
+fn channels_outside_the_word_play_no_part() {
+    let [same, others] = run_again(cases_that_read(), |word| !word);
+    assert!(same > 500 && others == 0, "{same} {others}");
+    // And those of the word do, but for READs whose word is written over or is never
+    // looked at.
+    let [same, others] = run_again(cases_that_read(), |word| word);
+    assert!(others > 500 && others > 20 * same, "{same} {others}");
+}
+
+/// The same where no channel is read: all inputs may be others.
+#[test]
+fn no_channel_plays_a_part_without_a_read() {
+    for_each_run(gen::cases(&FULL, 17, 400), |case, map, run, before| {
+        let mut first = before.clone();
+        let answer = first.run(case, map, &run.inputs, run.budget);
+        if answer.channels == 0 {
+            let inputs = changed(&run.inputs, 65_535);
+            let mut second = before.clone();
+            assert_eq!(second.run(case, map, &inputs, run.budget), answer);
+            assert_eq!(second, first);
+        }
+    });
+}
+
 /// "At each point the machine stands as demand 3 says": step by step the
-/// machine is one, its instruction lies in the code, and the stack suffices.
+/// machine is one, its instruction lies in the code, and the stack suffices. Each step has
+/// the channel that it must have, and the run has all of them.
 #[test]
 fn every_point_of_a_run_is_a_machine() {
-    for_each_run(gen::cases(&FULL, 12, 320), |case, map, run, before| {
+    let cases = gen::cases(&FULL, 12, 320).chain(cases_of_channels(&SMALL, SEED, None));
+    for_each_run(cases, |case, map, run, before| {
         let mut whole = before.clone();
         let total = whole.run(case, map, &run.inputs, run.budget);
         if total.number < 30 {
             return;
         }
         let program = parse(&case.image).unwrap();
-        let mut stepped = before.clone();
+        let (mut stepped, mut channels) = (before.clone(), 0);
         for point in 0..=total.count.min(300) {
             let machine = stepped.machine;
             assert!(machine.is_machine(&program, map, stepped.store.len()));
@@ -1358,12 +1596,19 @@ fn every_point_of_a_run_is_a_machine() {
             assert!(row.length > 0 && pc + usize::from(row.length) <= module.code_length);
             assert!(row.taken <= machine.depth && machine.depth - row.taken + row.left <= 16);
             if point < total.count {
+                let State {
+                    store, requests, ..
+                } = &stepped;
+                let expected = channels_of_step(&case.image, store, &machine, *requests);
                 let answer = stepped.run(case, map, &run.inputs, 1);
                 assert_eq!((answer.number, answer.count), (30, 1));
+                assert_eq!(answer.channels, expected);
+                channels |= expected;
             }
         }
         if total.count <= 300 {
             assert_eq!(stepped, whole);
+            assert_eq!(channels, total.channels);
         }
     });
 }
@@ -1399,7 +1644,7 @@ fn a_refused_run_leaves_everything() {
         let mut after = before.clone();
         let answer = after.run(case, map, &run.inputs, run.budget);
         if answer.number < 30 {
-            assert_eq!((answer.code, answer.count), (0, 0));
+            assert_eq!((answer.code, answer.count, answer.channels), (0, 0, 0));
             assert_eq!(after, before);
         }
     });

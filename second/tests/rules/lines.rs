@@ -1,12 +1,12 @@
 //! A.7, the clock line.
 
 use crate::rig::{
-    at_instruction, at_instruction_of, entry, here, procedure, set_stack, Rig, BASE_0, BASE_1, H,
-    L, S, WORDS, Z,
+    at_instruction, at_instruction_of, desk_with_requests, entry, here, procedure, set_stack, Rig,
+    BASE_0, BASE_1, H, L, S, SPOILED, WORDS, Z,
 };
 use crate::transfer::{check_conditions, poke_good, poke_record, restored, GOOD, MASK, Q};
 use second::assemble::Source;
-use second::{desk, desk_with, Machine};
+use second::{desk, Machine};
 
 const NOP: u8 = 0o336;
 const RTN: u8 = 0o354;
@@ -517,7 +517,7 @@ fn a_vector_may_be_saved_over() {
 #[test]
 fn a_refused_run_returns_the_word() {
     let good = at_line(8);
-    let check = |number: u8, spoil: fn(&mut Rig)| {
+    for (number, spoil) in SPOILED {
         for requests in [0xFFFF, 0xA55A, 0x0100, 0x00FF, 0] {
             let mut rig = good.clone();
             rig.requests = requests;
@@ -526,18 +526,7 @@ fn a_refused_run_returns_the_word() {
             assert_eq!((answer.number, answer.requests), (number, requests));
             assert_eq!(rig.requests, requests);
         }
-    };
-    check(1, |rig| rig.image.clear());
-    check(2, |rig| rig.image[0] = 0);
-    check(3, |rig| rig.image.truncate(9));
-    check(4, |rig| rig.image.push(0));
-    check(5, |rig| rig.image[1] |= 8);
-    // The data size of module 0 has two bytes; then its procedure count.
-    check(6, |rig| rig.image[4] = 0);
-    check(7, |rig| rig.map.truncate(9));
-    check(9, |rig| rig.store.truncate(200));
-    check(11, |rig| rig.machine.depth = 5);
-    check(12, |rig| rig.map[0] = 0);
+    }
 }
 
 /// The same for 10, which a rig cannot have; in a case the next run gets the word.
@@ -685,14 +674,14 @@ fn a_call_is_interrupted() {
 fn the_desk() {
     let example = [0x01, 0x00, 0x00, 0x04, 0x02, 0x07, 0xA1, 0xEC];
     let reading = desk(&example);
-    let with = |requests| desk_with(&example, requests, 0);
+    let with = |requests| desk_with_requests(&example, requests, 0);
     assert_eq!(with(0), reading);
     assert_eq!(with(200), format!("{reading}requests 200\n"));
     // A vector of zeros: word 0 is no base.
     let failed = "stop 35 code 0 steps 0 module 0 pc 0 depth 0\n\
                   0 0 0 0 0 0 0 0 0 0 0 0 0 0 0 0\nrequests 32769\n";
     assert_eq!(with(32_769), failed);
-    assert_eq!(desk_with(&[2], 256, 0), "refused 3\n");
+    assert_eq!(desk_with_requests(&[2], 256, 0), "refused 3\n");
 }
 
 /// Requests that are given after some steps of the desk's 1,000.
@@ -712,8 +701,8 @@ fn the_desk_with_requests_later() {
         (3, failed(3, 0, 7)),
         (4, format!("{}requests 256\n", desk(&example))),
     ] {
-        assert_eq!(desk_with(&example, 256, after), expected);
-        assert_eq!(desk_with(&example, 0, after), desk(&example));
+        assert_eq!(desk_with_requests(&example, 256, after), expected);
+        assert_eq!(desk_with_requests(&example, 0, after), desk(&example));
     }
     // JPB to itself: the steps are the desk's in all.
     let circle = [1, 0, 0, 2, 0x1D, 1];
@@ -726,6 +715,6 @@ fn the_desk_with_requests_later() {
     ] {
         let first = format!("stop {stop} code 0 steps {steps} module 0 pc 0 depth 0");
         let expected = format!("{first}\n{zeros}\nrequests 256\n");
-        assert_eq!(desk_with(&circle, 256, after), expected);
+        assert_eq!(desk_with_requests(&circle, 256, after), expected);
     }
 }

@@ -1,6 +1,8 @@
 //! The rules of the paper, one file a subject. Expected values are worked out
 //! by hand from the paper's sentences.
 
+mod channel_kinds;
+mod channels;
 mod commands;
 mod depths;
 mod generated;

@@ -2,8 +2,8 @@
 
 use second::api::Buffers;
 use second::assemble::{encode, Source};
-use second::image::Procedure;
-use second::{load, run, start, Machine, RunAnswer};
+use second::image::{parse, Procedure};
+use second::{desk_with, load, run, start, Given, Machine, RunAnswer};
 
 pub const WORDS: usize = 4096;
 
@@ -118,8 +118,10 @@ impl Rig {
         let mut expected = self.clone();
         change(&mut expected.machine);
         expected.poke(writes);
+        let channels = channels_of_step(&self.image, &self.store, &self.machine, self.requests);
         let answer = self.run(1);
         assert_eq!((answer.number, answer.code, answer.count), (30, 0, 1));
+        assert_eq!(answer.channels, channels);
         assert_eq!(self.machine, expected.machine);
         assert_eq!(self.differences(&expected), []);
         assert_eq!(self.outputs, expected.outputs);
@@ -136,6 +138,7 @@ impl Rig {
             (answer.number, answer.code, answer.count),
             (number, code, 0)
         );
+        assert_eq!(answer.channels, 0);
         assert_eq!(self.machine, before.machine);
         assert_eq!(self.differences(&before), []);
         assert_eq!(self.outputs, before.outputs);
@@ -150,6 +153,52 @@ impl Rig {
             .map(|(address, (&here, &there))| (address, here, there))
             .collect()
     }
+}
+
+/// The channels of a step from this machine, as A.9 has them: that of a READ, if it is
+/// completed. A line that is open comes before it.
+pub fn channels_of_step(image: &[u8], store: &[u16], machine: &Machine, requests: u16) -> u16 {
+    let opcode = machine.opcode(&parse(image).unwrap(), image);
+    if opcode != 0o240 || requests & 0xFF00 & !machine.m & !store[3] != 0 {
+        return 0;
+    }
+    let top = usize::from(machine.depth);
+    match (machine.stack[top - 1], machine.stack[top - 2]) {
+        (channel @ 0..=15, address) if usize::from(address) < store.len() => 1 << channel,
+        _ => 0,
+    }
+}
+
+/// A refusal of run, and what leads to it.
+pub type Refusal = (u8, fn(&mut Rig));
+
+/// Those of a rig of [`at_instruction`]. 10 is missing: a rig has 16 inputs and outputs.
+pub const SPOILED: [Refusal; 10] = [
+    (1, |rig| rig.image.clear()),
+    (2, |rig| rig.image[0] = 0),
+    (3, |rig| rig.image.truncate(9)),
+    (4, |rig| rig.image.push(0)),
+    (5, |rig| rig.image[1] |= 8),
+    // The data size of module 0 has two bytes; then its procedure count.
+    (6, |rig| rig.image[4] = 0),
+    (7, |rig| rig.map.truncate(9)),
+    (9, |rig| rig.store.truncate(200)),
+    (11, |rig| rig.machine.depth = 5),
+    (12, |rig| rig.map[0] = 0),
+];
+
+/// The desk's reading with requests that are given after some steps, of an image that
+/// reads no input, without the line that says so.
+pub fn desk_with_requests(image: &[u8], requests: u16, after: u32) -> String {
+    let given = Given {
+        requests,
+        after,
+        ..Given::default()
+    };
+    let text = desk_with(image, &given);
+    let rest = text.strip_suffix("rests on no inputs\n");
+    assert_eq!(rest.is_none(), text.starts_with("refused "), "{text}");
+    rest.unwrap_or(&text).to_string()
 }
 
 /// Where the two modules of [`at_instruction`] begin, and the registers there.

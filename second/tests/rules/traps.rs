@@ -1,12 +1,12 @@
 //! A.8, a trap process in the cabinet.
 
 use crate::rig::{
-    at_instruction, at_instruction_of, entry, here, set_stack, Rig, BASE_0, BASE_1, H, L, S, WORDS,
-    Z,
+    at_instruction, at_instruction_of, desk_with_requests, entry, here, set_stack, Rig, BASE_0,
+    BASE_1, H, L, S, SPOILED, WORDS, Z,
 };
 use crate::transfer::{check_conditions_of, poke_good, poke_record, restored, GOOD, MASK, Q};
 use second::assemble::{encode, Source};
-use second::{desk, desk_with, Machine};
+use second::{desk, Machine};
 
 const NOP: u8 = 0o336;
 const RTN: u8 = 0o354;
@@ -649,7 +649,7 @@ fn a_trap_process_that_transfers_back() {
         "{}caught 36 process 134 module 0 pc 60\n",
         desk(&encode(&modules))
     );
-    assert_eq!(desk_with(&encode(&modules), 0, 0), reading);
+    assert_eq!(desk_with_requests(&encode(&modules), 0, 0), reading);
     assert_eq!(main[60], UDIV);
 }
 
@@ -683,7 +683,7 @@ fn budgets() {
 /// A refused run leaves all, also where the instruction would trap.
 #[test]
 fn refused_runs() {
-    let check = |number: u8, spoil: fn(&mut Rig)| {
+    for (number, spoil) in SPOILED {
         let mut rig = at_division();
         rig.requests = 0x8000;
         spoil(&mut rig);
@@ -692,17 +692,7 @@ fn refused_runs() {
         assert_eq!((answer.number, answer.code, answer.count), (number, 0, 0));
         assert_eq!((answer.requests, rig.machine), (0x8000, before.machine));
         assert_eq!(rig.store, before.store);
-    };
-    check(1, |rig| rig.image.clear());
-    check(2, |rig| rig.image[0] = 0);
-    check(3, |rig| rig.image.truncate(9));
-    check(4, |rig| rig.image.push(0));
-    check(5, |rig| rig.image[1] |= 8);
-    check(6, |rig| rig.image[4] = 0);
-    check(7, |rig| rig.map.truncate(9));
-    check(9, |rig| rig.store.truncate(200));
-    check(11, |rig| rig.machine.depth = 5);
-    check(12, |rig| rig.map[0] = 0);
+    }
 }
 
 /// "Running n and then m agrees with n + m", across traps, lines and transfers.
@@ -844,8 +834,8 @@ fn told(words: &[(u16, u16)]) -> Option<String> {
     let image = encode(&[Source::plain(&code), Source::plain(&[RTN])]);
     let reading = desk(&image);
     assert!(reading.starts_with("stop 31 "), "{reading}");
-    let with = desk_with(&image, 0, 0);
-    let requested = desk_with(&image, 0x00FF, 3);
+    let with = desk_with_requests(&image, 0, 0);
+    let requested = desk_with_requests(&image, 0x00FF, 3);
     let line = with.strip_prefix(&reading).expect("it begins so");
     assert_eq!(requested, format!("{reading}requests 255\n{line}"));
     (!line.is_empty()).then(|| line.to_string())
@@ -884,5 +874,5 @@ fn the_reading_tells_of_a_trap() {
     check(&but((34, 131)), line);
     check(&[&good[..], &[(33, 555), (34, 131)]].concat(), "");
     check(&but((32, 131)), "caught 36 process 300 module 0 pc 77");
-    assert_eq!(desk_with(&[2], 0, 0), "refused 3\n");
+    assert_eq!(desk_with_requests(&[2], 0, 0), "refused 3\n");
 }

@@ -16,7 +16,7 @@ chosen-requires : tie.Need-chosen-requires
 chosen-requires c κs = search needs
 
 perform-requires : tie.Need-perform-requires
-perform-requires c κs = rw (c .before .before .before .chosen .ensures) (asks-turn (c .before .before .before .before .before .before .before .before .before .before .pre .0) (c .before .before .before .before .before .before .before .before .before .before .args .left), (c .before .before .before .before .before .before .before .before .before .before .pre .1 .1, c .before .before .before .before .before .before .before .before .before .before .pre .1 .2))
+perform-requires c κs = rw (c .before .before .before .before .chosen .ensures) (asks-turn (c .before .before .before .before .before .before .before .before .before .before .before .pre .0) (c .before .before .before .before .before .before .before .before .before .before .before .args .left), (c .before .before .before .before .before .before .before .before .before .before .before .pre .1 .1, c .before .before .before .before .before .before .before .before .before .before .before .pre .1 .2))
 
 same-length : tie.Need-same-length
 same-length c = search needs
@@ -25,7 +25,7 @@ same-length-2 : tie.Need-same-length-2
 same-length-2 c = search needs
 
 returns : tie.Need-returns
-returns c = ((λ lent h. rw (c .before .before .before .before .before .before .before .before .chosen .ensures) at (c .before .before .before .before .perform .ensures .0 lent h) ∙ turn-is (c .before .before .before .before .before .before .before .before .before .before .before .before .before .before .before .pre .0) _ _ _ (c .before .before .before .before .before .before .before .before .before .before .before .before .before .before .before .args .left) h (c .before .before .before .before .before .before .before .before .before .before .before .before .before .before .before .pre .1 .0)), c .before .before .before .before .perform .ensures .1)
+returns c = ((λ lent h. rw (c .before .before .before .before .before .before .before .before .before .chosen .ensures) at (c .before .before .before .before .perform .ensures .0 lent h) ∙ turn-is (c .before .before .before .before .before .before .before .before .before .before .before .before .before .before .before .before .pre .0) _ _ _ (c .before .before .before .before .before .before .before .before .before .before .before .before .before .before .before .before .args .left) h (c .before .before .before .before .before .before .before .before .before .before .before .before .before .before .before .before .pre .1 .0)), rw (c .before .before .before .before .before .before .before .before .before .chosen .ensures) at (c .before .before .before .before .perform .ensures .1), c .before .before .before .before .perform .ensures .2)
 
 pub turn-spec : {M : Type 1} → statement M
 turn-spec =

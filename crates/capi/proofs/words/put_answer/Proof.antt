@@ -17,12 +17,15 @@ slice-write-answer-2 c = search needs
 slice-write-answer-3 : tie.Need-slice-write-answer-3
 slice-write-answer-3 c = search needs
 
+slice-write-answer-4 : tie.Need-slice-write-answer-4
+slice-write-answer-4 c = search needs
+
 same-length : tie.Need-same-length
 same-length c = search needs
 
 returns : tie.Need-returns
 unfolding written
-returns c = overwritten (c .args .count ∷ c .args .code ∷ c .args .requests ∷ []) (c .args .answer .now) (omega (arith, c .pre))
+returns c = overwritten (c .args .count ∷ c .args .code ∷ c .args .requests ∷ c .args .channels ∷ []) (c .args .answer .now) (omega (arith, c .pre))
 
 pub put-answer-spec : {M : Type 1} → statement M
-put-answer-spec = tie.close (tie.spec slice-write-answer slice-write-answer-2 slice-write-answer-3 same-length returns)
+put-answer-spec = tie.close (tie.spec slice-write-answer slice-write-answer-2 slice-write-answer-3 slice-write-answer-4 same-length returns)

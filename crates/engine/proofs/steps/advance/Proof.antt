@@ -21,10 +21,10 @@ same-length-2 : tie.Need-same-length-2
 same-length-2 c = search needs
 
 returns : tie.Need-returns
-returns c = search needs
+returns c = (c .before .before .by-line .ensures .0 _, c .before .before .by-line .ensures .1)
 
 by-instructions-requires : tie.Need-by-instructions-requires
-by-instructions-requires c κs = (c .before .before .before .before .before .before .before .before .before .before .before .pre, ⊎-elim (λ p. inl (p .1 .left)) (λ q. inr (sym (c .before .before .before .before .line-of .ensures) ∙ q .left)) (c .before .before .before .if1 .came))
+by-instructions-requires c κs = (c .before .before .before .before .before .before .before .before .before .before .before .before .pre, ⊎-elim (λ p. inl (p .1 .left)) (λ q. inr (sym (c .before .before .before .before .before .line-of .ensures) ∙ q .left)) (c .before .before .before .before .if1 .came))
 
 same-length-3 : tie.Need-same-length-3
 same-length-3 c = search needs

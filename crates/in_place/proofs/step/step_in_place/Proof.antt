@@ -40,20 +40,20 @@ use denote.Triple.Statement.{Contract, Triple}
 use denote.Triple.Call.{calls-at}
 use denote.Triple.Clauses.{ensured, lasts}
 use denote.Triple.Table.{entered, cited}
-use denote.Triple.Walked.{says, Stays, stay-ref, stay-dropped, gave-slice, walkOf, AllGo, goes-ref, goes-dropped, goes-gave-slice, Walks, ends-at, walked, walk-meets}
+use denote.Triple.Walked.{Stays, stay-ref, stay-dropped, gave-slice, walkOf, AllGo, goes-ref, goes-dropped, goes-gave-slice, Walks, ends-at, walked, walk-meets}
 use denote.Exit.{yes}
 use denote.Signature.{plain, shrSliceOf, shrRefTo}
 use denote.Signature.Array.{arrayOf}
 use Rattle.mcode.specs.Image.{parse}
 use Rattle.mcode.specs.Machine.{isMachine, state}
-use Rattle.mcode.specs.Step.{quietOf}
+use Rattle.mcode.specs.Step.{quietOf, quietRead}
 use Rattle.mcode.specs.Run.{lentTo}
 use Rattle.mcode.specs.declared.Machine.{Machine}
 use Rattle.actions.specs.Core.{leftBy}
 use Rattle.execute.specs.Stepping.{Prepared, answered}
 use Rattle.execute.specs.declared.steps.Next.{Next}
 use Rattle.in_place.specs.declared.step.Halt.{Halt}
-use Rattle.in_place.proofs.Facts.{says-three, needs-three}
+use Rattle.in_place.proofs.Facts.{says-two, says-three, needs-three}
 use Rattle.mcode.proofs.Machine as M′
 use Rattle.mcode.proofs.Machine.Laws as ML
 use Rattle.execute.proofs.steps.Next as S′
@@ -130,7 +130,7 @@ module _ {M : Type 1} (𝓤 : URA M) (H : Heap 𝓤) (A : Atoms 𝓤) (W : Given
 
   -- what this function answers, of the step's answer
   abbrev made : Next → Halt
-  made r = record { stop = r .stop; code = r .code }
+  made r = record { stop = r .stop; code = r .code; channels = r .channels }
 
   abbrev halt-v : Next → Val
   halt-v r = only (LL.vals H′.the-type HL.the-laws (made r))
@@ -155,22 +155,26 @@ module _ {M : Type 1} (𝓤 : URA M) (H : Heap 𝓤) (A : Atoms 𝓤) (W : Given
   abbrev Done : Next → List ℕ → List ℕ → Type 0
   Done r zs os = answered r zs os ≡ leftBy (state h (x₄ .now) (x₆ .now)) (quietOf (lentTo (x₁ .now) (x₃ .now) (x₅ .now)) (state h (x₄ .now) (x₆ .now)))
 
+  abbrev Took : Next → Type 0
+  Took r = r .channels ≡ quietRead (lentTo (x₁ .now) (x₃ .now) (x₅ .now)) (state h (x₄ .now) (x₆ .now))
+
   goes : Is Rm h (mach h ∷ []) → Asked₁ → Asked₂ → Asked₃ → ent 𝓤 (⋆ 𝓤 H A (Tok ∷ ‵ Sl ∷ [])) (Step 𝓤 H A at-mem run .pre to-step)
   goes is ask₁ ask₂ ask₃ = qed W (Tok ∷ ‵ Sl ∷ []) ∵ suffices ! _ (says-three 𝓤 Asked₁ Asked₂ Asked₃ (onEntry 𝓤 H A step.signature κs′ (q₁, (q₂, (q₃, (q₄, (q₅, (q₆, tt)))))) (h, xs) (mach h ∷ [], vs₆)) ask₁ ask₂ ask₃) $
       frame ! $ owned ! Rm (Is Rm) (LL.makes M′.the-type ML.the-plain 𝓤 H A) h _ is $ fjoin ! $ done !
 
-  exits : (r : Next) (zs os : List ℕ) → Done r zs os → length zs ≡ length (x₄ .now) → length os ≡ length (x₆ .now) → Is Rh (made r) (halt-v r ∷ [])
+  exits : (r : Next) (zs os : List ℕ) → Done r zs os → Took r → length zs ≡ length (x₄ .now) → length os ≡ length (x₆ .now) → Is Rh (made r) (halt-v r ∷ [])
       → ent 𝓤 (⋆ 𝓤 H A (‵ (fobs γ (Rm .coded .code (r .machine))) ∷ ‵ (fbor κ (Body (mem Rm) b o γ)) ∷ ‵ (flft κ q) ∷ Tok ∷ ‵ (finally u16 (x₄ .name) zs) ∷ ‵ (finally u16 (x₆ .name) os) ∷ [])) (Post (halt-v r))
-  exits r zs os e l₃ l₄ is =
+  exits r zs os e d l₃ l₄ is =
       qed W (‵ (fobs γ (Rm .coded .code (r .machine))) ∷ ‵ (fbor κ (Body (mem Rm) b o γ)) ∷ ‵ (flft κ q) ∷ Tok ∷ ‵ (finally u16 (x₄ .name) zs) ∷ ‵ (finally u16 (x₆ .name) os) ∷ []) ∵
-      suffices ! _ (ends-at 𝓤 H A this.ended stayed (this.clauses 𝓤 H A at-mem run) W ((κs, (q, (q₁, (q₂, (q₃, (q₄, (q₅, (q₆, tt))))))), tt, a, vals), tt) (halt-v r) (made r) (r .machine, (tt, (tt, (tt, (zs, (tt, (os, tt))))))) (tt, (tt, (tt, (tt, (l₃, (tt, (l₄, tt)))))))) $ says ! e $
+      suffices ! _ (ends-at 𝓤 H A this.ended stayed (this.clauses 𝓤 H A at-mem run) W ((κs, (q, (q₁, (q₂, (q₃, (q₄, (q₅, (q₆, tt))))))), tt, a, vals), tt) (halt-v r) (made r) (r .machine, (tt, (tt, (tt, (zs, (tt, (os, tt))))))) (tt, (tt, (tt, (tt, (l₃, (tt, (l₄, tt)))))))) $
+      suffices ! _ (says-two 𝓤 (Done r zs os) (Took r) _ e d) $
       move ! (2 ∷ 3 ∷ []) $ join ! $ frame ! $ feqI ! (List Val) (vptr b o ∷ []) (vptr b o ∷ []) refl $ fjoin3 ! $
       nothing ! $ move ! (3 ∷ 0 ∷ []) $ fjoin ! $ nothing ! $ fjoin ! $ move ! (2 ∷ 0 ∷ []) $ fjoin ! $ nothing ! $ fjoin ! $ nothing ! $ fjoin ! $ nothing ! $ fjoin ! $ move ! (1 ∷ 0 ∷ []) $ fjoin ! $
       owned ! Rh (Is Rh) (LL.makes H′.the-type HL.the-plain 𝓤 H A) (made r) _ is $ move ! (1 ∷ 0 ∷ []) $ done !
 
   -- what whoever holds a step's answer knows of its fields
   is-halt : (r : Next) (w : Val) → Is Rs r (w ∷ []) → Is Rh (made r) (halt-v r ∷ [])
-  is-halt r w g = LL.owes H′.the-type HL.the-laws (made r) (LL.owed S′.the-type SL.the-laws r _ g .0, (LL.owed S′.the-type SL.the-laws r _ g .1 .0, tt))
+  is-halt r w g = LL.owes H′.the-type HL.the-laws (made r) (LL.owed S′.the-type SL.the-laws r _ g .0, (LL.owed S′.the-type SL.the-laws r _ g .1 .0, (LL.owed S′.the-type SL.the-laws r _ g .1 .1 .1 .0, tt)))
 
   is-machine : (r : Next) (w : Val) → Is Rs r (w ∷ []) → Is Rm (r .machine) (mach (r .machine) ∷ [])
   is-machine r w g = LL.owed S′.the-type SL.the-laws r _ g .1 .1 .0
@@ -197,19 +201,19 @@ module _ {M : Type 1} (𝓤 : URA M) (H : Heap 𝓤) (A : Atoms 𝓤) (W : Given
         calls-at ! fm (Step 𝓤 H A at-mem run) known to-step (and-then ! (load ! (from ! (stop !)) (look ! 13 refl)) (and-then ! (load ! (from ! (stop !)) (look ! 27 refl)) (and-then ! (load ! (from ! (stop !)) (look ! 25 refl)) (and-then ! (load ! (from ! (stop !)) (look ! 23 refl)) (and-then ! (load ! (from ! (stop !)) (look ! 9 refl)) (and-then ! (load ! (from ! (stop !)) (look ! 19 refl)) (and-then ! (load ! (from ! (stop !)) (look ! 5 refl)) (no-more !)))))))) (λ w.
         use1 W (later (some (λ (r : Next). (Tok ⊛ ‵ (Rs .own r (w ∷ []))) ⊛ raw (ensured 𝓤 H A step.ended (step.clauses 𝓤 H A at-mem run) κs′ (h, xs) tt r)))) (id⊢ 𝓤 _) $ await ! tt $ pick ! (λ r.
         -- what `step` ensures, at some last lists
-        split ! $ move ! (1 ∷ []) $ use1 W (some (λ (zs : Unit {0} × (Unit {0} × (Unit {0} × (Unit {0} × (List ℕ × (Unit {0} × (List ℕ × (Unit {0})))))))). ‵ (lasts step.ended κs′ (h, xs) zs) ⊛ raw (fact 𝓤 (Done r (zs .1 .1 .1 .1 .0) (zs .1 .1 .1 .1 .1 .1 .0))))) (id⊢ 𝓤 _) $ pick ! (λ zs.
-        split ! $ move ! (1 ∷ []) $ heard ! (Done r (zs .1 .1 .1 .1 .0) (zs .1 .1 .1 .1 .1 .1 .0)) (λ e.
+        split ! $ move ! (1 ∷ []) $ use1 W (some (λ (zs : Unit {0} × (Unit {0} × (Unit {0} × (Unit {0} × (List ℕ × (Unit {0} × (List ℕ × (Unit {0})))))))). ‵ (lasts step.ended κs′ (h, xs) zs) ⊛ (raw (fact 𝓤 (Done r (zs .1 .1 .1 .1 .0) (zs .1 .1 .1 .1 .1 .1 .0))) ⊛ raw (fact 𝓤 (Took r))))) (id⊢ 𝓤 _) $ pick ! (λ zs.
+        split ! $ move ! (1 ∷ []) $ split ! $ heard ! (Done r (zs .1 .1 .1 .1 .0) (zs .1 .1 .1 .1 .1 .1 .0)) (λ e. heard ! (Took r) (λ d.
         fsplit ! $ drop ! $ fsplit ! $ drop ! $ fsplit ! $ drop ! $ fsplit ! $ drop ! $ fsplit ! $ fsplit ! $ move ! (1 ∷ []) $ feqL ! (λ l₃. move ! (1 ∷ []) $ fsplit ! $ drop ! $ fsplit ! $ fsplit ! $ move ! (1 ∷ []) $ feqL ! (λ l₄.
         -- [outputs' last list; …; store's; the tokens and the answer; the cell; the open borrow; obs; auth; _13; …]
         move ! (3 ∷ []) $ split ! $ move ! (1 ∷ []) $ peeks ! Rs (Is Rs) (shows 𝓤 H A Rs) r (w ∷ []) (λ isr.
         land ! (from ! (stop !)) (init ! 19 refl (LL.lawful S′.the-type SL.the-laws 𝓤 H A W .typed r _ isr .0)) $ rewrite ! 19 (λ (u : Val). ‵ (fat fullShare SL.mir l8 0 u)) (ap only (LL.tells S′.the-type SL.the-laws r _ isr)) refl $
         assigns ! (of-opd ! (load ! (from ! (fld ! refl (stop !))) (look-in ! 19 (sub ! 2 refl (whole !))))) (from ! (hop ! (look ! 33 refl) (stop !))) (store-raw ! 5 refl (LL.lawful M′.the-type ML.the-laws 𝓤 H A W .typed (r .machine) _ (is-machine r w isr) .0)) $
-        assigns ! (agg ! (and-then ! (load ! (from ! (fld ! refl (stop !))) (look-in ! 19 (sub ! 0 refl (whole !)))) (and-then ! (load ! (from ! (fld ! refl (stop !))) (look-in ! 19 (sub ! 1 refl (whole !)))) (no-more !)))) (from ! (stop !)) (init ! 35 refl (LL.lawful H′.the-type HL.the-laws 𝓤 H A W .typed (made r) _ (is-halt r w isr) .0)) $
+        assigns ! (agg ! (and-then ! (load ! (from ! (fld ! refl (stop !))) (look-in ! 19 (sub ! 0 refl (whole !)))) (and-then ! (load ! (from ! (fld ! refl (stop !))) (look-in ! 19 (sub ! 1 refl (whole !)))) (and-then ! (load ! (from ! (fld ! refl (stop !))) (look-in ! 19 (sub ! 3 refl (whole !)))) (no-more !))))) (from ! (stop !)) (init ! 35 refl (LL.lawful H′.the-type HL.the-laws 𝓤 H A W .typed (made r) _ (is-halt r w isr) .0)) $
         -- the borrow is closed at the new machine
         owned ! Rm (Is Rm) (LL.makes M′.the-type ML.the-plain 𝓤 H A) (r .machine) _ (is-machine r w isr) $ move ! (6 ∷ 0 ∷ 7 ∷ 8 ∷ 9 ∷ []) $ closes ! tt Rm (r .machine) (mach (r .machine) ∷ []) b o $
         returns ! (look ! 34 refl) $ forget ! 8 refl $ forget ! 10 refl $ forget ! 12 refl $ forget ! 14 refl $ forget ! 16 refl $ forget ! 18 refl $ forget ! 20 refl $ forget ! 22 refl $ forget ! 24 refl $ forget ! 26 refl $ forget ! 28 refl $ forget ! 30 refl $ forget ! 32 refl $ forget ! 34 refl $
         move ! (34 ∷ 35 ∷ []) $ free1 ! $ move ! (32 ∷ 33 ∷ []) $ free1 ! $ move ! (30 ∷ 31 ∷ []) $ free1 ! $ move ! (28 ∷ 29 ∷ []) $ free1 ! $ move ! (26 ∷ 27 ∷ []) $ free1 ! $ move ! (24 ∷ 25 ∷ []) $ free1 ! $ move ! (22 ∷ 23 ∷ []) $ free1 ! $ move ! (20 ∷ 21 ∷ []) $ free1 ! $ move ! (18 ∷ 19 ∷ []) $ free1 ! $ move ! (16 ∷ 17 ∷ []) $ free1 ! $ move ! (14 ∷ 15 ∷ []) $ free1 ! $ move ! (12 ∷ 13 ∷ []) $ free1 ! $ move ! (10 ∷ 11 ∷ []) $ free1 ! $ move ! (8 ∷ 9 ∷ []) $ free1 ! $ free0 ! $
-        keep ! (0 ∷ 1 ∷ 2 ∷ 4 ∷ 7 ∷ 5 ∷ []) $ by ! (exits r (zs .1 .1 .1 .1 .0) (zs .1 .1 .1 .1 .1 .1 .0) e l₃ l₄ (is-halt r w isr)))))))))))))))))))))))))
+        keep ! (0 ∷ 1 ∷ 2 ∷ 4 ∷ 7 ∷ 5 ∷ []) $ by ! (exits r (zs .1 .1 .1 .1 .0) (zs .1 .1 .1 .1 .1 .1 .0) e d l₃ l₄ (is-halt r w isr))))))))))))))))))))))))))
 
 module _ {M : Type 1} (𝓤 : URA M) (H : Heap 𝓤) (A : Atoms 𝓤) (W : Given 𝓤 H A) (mem : Memory → SProp 𝓤) (run : Routine → Fun 𝓤) where
   this-walks : (C : Calls 𝓤 H) (Λ : Loops 𝓤 H) → FmC 𝓤 H (W .laws) C → Triple 𝓤 (C #execute·step) (Step 𝓤 H A mem run) → Walks 𝓤 H A this.ended stayed (WpFn 𝓤 H C Λ code.function) (this.clauses 𝓤 H A mem run)

@@ -25,7 +25,7 @@ same-length-2 : tie.Need-same-length-2
 same-length-2 c = search needs
 
 returns : tie.Need-returns
-returns c = ap (joined (answered (c .before .before .before .before .before .before .before .before .before .before .before .before .before .before .before .before .args .ran) (now (c .before .before .before .before .before .before .before .before .before .before .before .before .before .before .before .before .args .store)) (now (c .before .before .before .before .before .before .before .before .before .before .before .before .before .before .before .before .args .outputs)))) (c .before .before .before .before .before .before .before .run .ensures)
+returns c = ap (joined (answered (c .before .before .before .before .before .before .before .before .before .before .before .before .before .before .before .before .before .before .args .ran) (now (c .before .before .before .before .before .before .before .before .before .before .before .before .before .before .before .before .before .before .args .store)) (now (c .before .before .before .before .before .before .before .before .before .before .before .before .before .before .before .before .before .before .args .outputs)))) (c .before .before .before .before .before .before .before .before .before .run .ensures)
 
 pub more-spec : {M : Type 1} → statement M
 more-spec = tie.close (tie.spec run-requires add-t16 same-length same-length-2 returns)

@@ -1,14 +1,14 @@
--- Safe, and it ends: the measure is the arguments that are left.
+-- Safe, and ends.
 use Prim.Native.Nat.{_-_}
 use borrow.Author.Needs.{needs}
-use Rattle.console.proofs.arguments.gathered.Statement.{statement}
-use Rattle.console.proofs.arguments.gathered.Tie as tie
+use Rattle.reading.proofs.arguments.gathered.Statement.{statement}
+use Rattle.reading.proofs.arguments.gathered.Tie as tie
 
 abbrev Inv-loop : tie.InvT-loop
-Inv-loop program count asked₀ i₀ asked i = Unit {0}
+Inv-loop count all₀ i₀ all i = Unit {0}
 
 abbrev μ-loop : tie.MeasureT-loop
-μ-loop program count asked₀ i₀ asked i = count - i
+μ-loop count all₀ i₀ all i = count - i
 
 arg-count-requires : tie.Need-arg-count-requires Inv-loop μ-loop
 arg-count-requires c κs = search needs
@@ -37,8 +37,8 @@ loop-less c = search needs
 loop-again : tie.Need-loop-again Inv-loop μ-loop
 loop-again c = tt
 
-whole-requires : tie.Need-whole-requires Inv-loop μ-loop
-whole-requires c κs = search needs
+complete-requires : tie.Need-complete-requires Inv-loop μ-loop
+complete-requires c κs = search needs
 
 returns-3 : tie.Need-returns-3 Inv-loop μ-loop
 returns-3 c = search needs
@@ -58,5 +58,5 @@ gathered-spec =
     add-i
     loop-less
     loop-again
-    whole-requires
+    complete-requires
     returns-3)

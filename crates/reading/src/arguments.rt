@@ -11,6 +11,9 @@ use console::arguments::with_text;
 use console::options;
 use console::print::complaint;
 use console::print::too_long;
+ghost use mathlib.Core.Path.{_≡_};
+ghost use Rattle.console.specs.Choices.{sameText, nameOf};
+ghost use Rattle.reading.specs.Values.{varyText};
 
 // Whether the value of --vary comes next.
 pub struct Wanted {
@@ -46,7 +49,9 @@ fn with_values(asked: Asked, text: &[u8]) -> Wanted {
 }
 
 // Whether a text names --vary.
-pub fn names_vary(text: &[u8]) -> bool {
+pub fn names_vary(text: &[u8]) -> bool
+    ensures { λ r. ⌜ r ≡ sameText (nameOf (now (text .entry))) varyText ⌝ }
+{
     check::same(options::name(text), b"--vary")
 }
 

@@ -2,13 +2,15 @@
 use console::number::Number;
 use console::number::decimal;
 use console::options;
+ghost use mathlib.Core.Path.{_≡_};
 ghost use Prim.Native.Nat.{_≤_};
 ghost use lib.ListN.{length};
+ghost use Rattle.reading.specs.Values.{Ends, isWord, areWords, channelOf};
 
 // Where the value that begins at `at` ends: at the next comma, or at the list's end.
 pub fn value_end(list: &[u8], at: usize) -> usize
     requires { ⌜ at ≤ length (now list) ⌝ }
-    ensures { λ r. ⌜ (at ≤ r) × (r ≤ length (now (list .entry))) ⌝ }
+    ensures { λ r. ⌜ Ends (now (list .entry)) at r ⌝ }
 {
     let mut i = at;
     while i < list.len() {
@@ -21,7 +23,9 @@ pub fn value_end(list: &[u8], at: usize) -> usize
 }
 
 // A value, 0 to 65,535.
-fn is_word(text: &[u8]) -> bool {
+fn is_word(text: &[u8]) -> bool
+    ensures { λ r. ⌜ r ≡ isWord (now (text .entry)) ⌝ }
+{
     match decimal(text) {
         Number::Is(n) => n <= 65535,
         Number::Bad => false,
@@ -29,7 +33,9 @@ fn is_word(text: &[u8]) -> bool {
 }
 
 // One value or more, with a comma between two.
-fn are_words(list: &[u8]) -> bool {
+fn are_words(list: &[u8]) -> bool
+    ensures { λ r. ⌜ r ≡ areWords (now (list .entry)) ⌝ }
+{
     let mut at = 0usize;
     while at < list.len() {
         let end = value_end(list, at);
@@ -51,7 +57,9 @@ pub enum Tried {
 }
 
 // The channel of CH=V1,V2,..
-pub fn channel_of(text: &[u8]) -> Tried {
+pub fn channel_of(text: &[u8]) -> Tried
+    ensures { λ r. ⌜ r ≡ channelOf (now (text .entry)) ⌝ }
+{
     match decimal(options::name(text)) {
         Number::Is(c) => {
             if 15 < c {

@@ -20,13 +20,13 @@ value-end-requires : tie.Need-value-end-requires Inv-loop μ-loop
 value-end-requires c κs = search needs
 
 sub-put-value : tie.Need-sub-put-value Inv-loop μ-loop
-sub-put-value c = omega (arith, c .value-end .ensures .0, c .value-end .ensures .1)
+sub-put-value c = omega (arith, c .value-end .ensures .behind, c .value-end .ensures .inside)
 
 part-put-value-start : tie.Need-part-put-value-start Inv-loop μ-loop
-part-put-value-start c = omega (arith, c .value-end .ensures .0, c .value-end .ensures .1)
+part-put-value-start c = omega (arith, c .value-end .ensures .behind, c .value-end .ensures .inside)
 
 part-put-value-end : tie.Need-part-put-value-end Inv-loop μ-loop
-part-put-value-end c = omega (arith, c .value-end .ensures .0, c .value-end .ensures .1)
+part-put-value-end c = omega (arith, c .value-end .ensures .behind, c .value-end .ensures .inside)
 
 put-value-requires : tie.Need-put-value-requires Inv-loop μ-loop
 put-value-requires c κs = search needs
@@ -44,10 +44,10 @@ returns : tie.Need-returns Inv-loop μ-loop
 returns c = search needs
 
 add-at : tie.Need-add-at Inv-loop μ-loop
-add-at c = omega (arith, c .before .before .before .before .before .before .before .before .before .before .value-end .ensures .1)
+add-at c = omega (arith, c .before .before .before .before .before .before .before .before .before .before .value-end .ensures .inside)
 
 loop-less : tie.Need-loop-less Inv-loop μ-loop
-loop-less c = omega (arith, c .before .before .before .before .before .before .before .before .before .before .value-end .ensures .0, c .before .before .before .before .before .before .before .before .before .before .value-end .ensures .1, c .before .before .before .before .before .before .before .before .before .before .before .loop-test .taken)
+loop-less c = omega (arith, c .before .before .before .before .before .before .before .before .before .before .value-end .ensures .behind, c .before .before .before .before .before .before .before .before .before .before .value-end .ensures .inside, c .before .before .before .before .before .before .before .before .before .before .before .loop-test .taken)
 
 loop-again : tie.Need-loop-again Inv-loop μ-loop
 loop-again c = search needs

@@ -2,7 +2,7 @@
  *
  * Link with target/staticlib/libcapi.a, which `rt staticlib capi` writes (x86-64). The functions allocate nothing, keep nothing
  * between calls and write only to the buffers named below, so any number of machines may run side by side, in threads too.
- * Of the stack, load takes about 78 KB, start 7 KB and run 10 KB (measured: bench/size, docs/PERFORMANCE.md).
+ * Of the stack, load takes about 74 KB, start 5 KB and run 7 KB (measured: bench/size, docs/PERFORMANCE.md).
  *
  * Each buffer passes as a pointer, then its length in ELEMENTS: bytes of an image, entries of a map, words of a place, a store, a machine,
  * inputs or outputs, numbers of an answer. The caller keeps these rules, which no function can test:
@@ -80,6 +80,8 @@ extern "C" {
 #define CEMBUXOLA_PLACE_WORDS 2
 #define CEMBUXOLA_MACHINE_WORDS 24
 #define CEMBUXOLA_ANSWER_NUMBERS 4
+/* The most modules of an image. */
+#define CEMBUXOLA_MOST_MODULES 21
 /* The inputs and the outputs of a run. */
 #define CEMBUXOLA_CHANNELS 16
 
@@ -90,7 +92,7 @@ extern "C" {
  * order is answered: 1, 2, then 3, 5 and 6 as the image is read, 4; then load 7, 13, 8; start 9; run 7, 12, 9, 10, 11. */
 enum {
     CEMBUXOLA_IMAGE_SIZE = 1,     /* the image has 0 or over 65,535 bytes */
-    CEMBUXOLA_MODULE_COUNT = 2,   /* the module count is 0 or over 32 */
+    CEMBUXOLA_MODULE_COUNT = 2,   /* the module count is 0 or over CEMBUXOLA_MOST_MODULES */
     CEMBUXOLA_IMAGE_ENDS = 3,     /* the image ends inside a part */
     CEMBUXOLA_BYTES_AFTER = 4,    /* bytes follow the last module */
     CEMBUXOLA_BIT_MAP = 5,        /* one of the bits 3 to 7 of a bit map stands */

@@ -21,6 +21,8 @@ pub const PLACE_WORDS: usize = 2;
 pub const MACHINE_WORDS: usize = 24;
 /// The numbers of a run's answer: count, code, the requests left and the channels read.
 pub const ANSWER_NUMBERS: usize = 4;
+/// The most modules of an image.
+pub const MOST_MODULES: usize = 21;
 /// The inputs and the outputs of a run.
 pub const CHANNELS: usize = 16;
 

@@ -1,6 +1,6 @@
 //! The numbers of refusals and stops, with their words.
 
-use crate::PLACE_WORDS;
+use crate::{MOST_MODULES, PLACE_WORDS};
 use std::fmt;
 
 /// Why a call was refused. Nothing was changed, but for the map at [`Refusal::NoDepths`] and [`Refusal::NotWhole`].
@@ -29,10 +29,10 @@ pub struct Place {
     pub position: u16,
 }
 
-/// The refusals without a place, with their numbers and words.
+/// The refusals without a place, with their numbers and words; a number that ends the words is written behind them.
 const REFUSALS: [(Refusal, u16, &str); 12] = [
     (Refusal::ImageSize, 1, "image of 0 or over 65,535 bytes"),
-    (Refusal::ModuleCount, 2, "module count 0 or over 32"),
+    (Refusal::ModuleCount, 2, "module count 0 or over"),
     (Refusal::ImageEnds, 3, "image ends inside a part"),
     (Refusal::BytesAfter, 4, "bytes after the last module"),
     (Refusal::BitMap, 5, "bit 3 to 7 of a bit map"),
@@ -94,6 +94,7 @@ impl fmt::Display for Refusal {
         let (number, words) = self.numbered_words();
         write!(f, "refused {number}: {words}")?;
         match self {
+            Refusal::ModuleCount => write!(f, " {MOST_MODULES}"),
             Refusal::NotWhole(place) => write!(f, " ({place})"),
             _ => Ok(()),
         }

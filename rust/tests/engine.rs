@@ -5,7 +5,7 @@ mod common;
 use cembuxola::c::LINKED;
 use cembuxola::{
     load, run, start, Cabinet, Machine, Place, Ran, Refusal, Stop, CHANNELS, MACHINE_WORDS,
-    UNMARKED,
+    MOST_MODULES, UNMARKED,
 };
 use common::{image, INPUTS};
 
@@ -135,6 +135,53 @@ fn loaded(image: &[u8]) -> Result<(), Refusal> {
     load(image, &mut vec![0; image.len()])
 }
 
+/// So many modules that end at once.
+fn modules(count: usize) -> Vec<u8> {
+    [&[count as u8][..], &[0, 0, 1, 0xEC].repeat(count)].concat()
+}
+
+#[test]
+fn one_to_21_modules_are_accepted() {
+    assert_eq!(MOST_MODULES, 21);
+    for count in 1..=MOST_MODULES {
+        let mut cabinet = Cabinet::new(&modules(count), 4096).unwrap();
+        assert_eq!(cabinet.run(&INPUTS, 9, 0).stop, Stop::Ended);
+        let bases: Vec<u16> = (0..count as u16).map(|m| 128 + 3 * m).collect();
+        assert_eq!(cabinet.store()[32..32 + count], bases);
+        assert_eq!(cabinet.store()[32 + count], 0);
+    }
+    assert_eq!(loaded(&[MOST_MODULES as u8]), Err(Refusal::ImageEnds));
+}
+
+#[test]
+fn any_other_count_is_refused_before_all_else_of_the_image() {
+    for count in [0].into_iter().chain(MOST_MODULES + 1..=255) {
+        let whole = modules(count);
+        // so many whole modules, the count alone, and a bit map that is wrong
+        for image in [&whole[..], &whole[..1], &[count as u8, 0xFF, 0xFF]] {
+            let (mut map, mut store) = (vec![9; 1100], [7; 4096]);
+            assert_eq!(load(image, &mut map), Err(Refusal::ModuleCount));
+            assert_eq!(start(image, &mut store), Err(Refusal::ModuleCount));
+            assert!(map == [9; 1100] && store == [7; 4096]);
+            let mut machine = Machine::default();
+            let (mut outputs, inputs) = ([5; CHANNELS], &INPUTS);
+            let ran = run(
+                &mut machine,
+                image,
+                &map,
+                &mut store,
+                &mut outputs,
+                inputs,
+                9,
+                0,
+            );
+            assert_eq!(ran, Err(Refusal::ModuleCount));
+        }
+    }
+    let words = "refused 2: module count 0 or over 21";
+    assert_eq!(Refusal::ModuleCount.to_string(), words);
+}
+
 #[test]
 fn code_is_not_whole_by_each_cause() {
     let cases: [(&[u8], u16); 16] = [
@@ -204,10 +251,11 @@ fn the_first_module_and_the_lowest_position() {
     // procedure 1 is called by nobody
     let uncalled = [1, 2, 2, 0, 2, 0, 0, 0, 0, 0, 1, 0, 0, 0xEC, 0x11];
     assert_eq!(loaded(&uncalled), Err(not_whole(0, 1)));
-    // of 32 modules the last one, at a position of two bytes
-    let whole = [&[32][..], &[0, 0, 1, 0xEC].repeat(31)].concat();
+    // of the most modules the last one, at a position of two bytes
+    let mut whole = modules(MOST_MODULES);
+    whole.truncate(1 + 4 * (MOST_MODULES - 1));
     let last = [&whole[..], &[0, 1, 44], &[0xDE; 300]].concat();
-    assert_eq!(loaded(&last), Err(not_whole(31, 299)));
+    assert_eq!(loaded(&last), Err(not_whole(MOST_MODULES as u16 - 1, 299)));
 }
 
 #[test]

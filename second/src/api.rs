@@ -67,14 +67,18 @@ impl RunAnswer {
 /// Refusals 13 and 8 leave it all ones over the image's length; the others
 /// leave it alone.
 pub fn load(image: &[u8], map: &mut [u32]) -> LoadAnswer {
-    let program = match image::parse(image) {
-        Ok(program) => program,
-        Err(refusal) => return LoadAnswer::without_place(refusal),
-    };
+    match image::parse(image) {
+        Ok(program) => load_parsed(&program, image, map),
+        Err(refusal) => LoadAnswer::without_place(refusal),
+    }
+}
+
+/// The same behind refusals 1 to 6.
+pub fn load_parsed(program: &Program, image: &[u8], map: &mut [u32]) -> LoadAnswer {
     if map.len() < image.len() {
         return LoadAnswer::without_place(number::MAP_SHORT);
     }
-    if let Some(fault) = walk::first_fault(&program, image) {
+    if let Some(fault) = walk::first_fault(program, image) {
         map[..image.len()].fill(UNMARKED);
         return LoadAnswer {
             number: number::NOT_WHOLE,
@@ -82,7 +86,7 @@ pub fn load(image: &[u8], map: &mut [u32]) -> LoadAnswer {
             position: fault.position as u16,
         };
     }
-    if !depths::assign(&program, image, map) {
+    if !depths::assign(program, image, map) {
         return LoadAnswer::without_place(number::NO_DEPTHS);
     }
     LoadAnswer::without_place(number::ACCEPTED)
@@ -136,6 +140,17 @@ pub fn run_observed<O: Observer>(
 
 /// Run's tests in their order: 1 to 6, then "7, 12, 9, 10, 11".
 fn admit<'a>(machine: &Machine, buffers: Buffers<'a>) -> Result<(Program, Lent<'a>), u8> {
+    let program = image::parse(buffers.image)?;
+    let lent = admit_parsed(&program, machine, buffers)?;
+    Ok((program, lent))
+}
+
+/// The same behind refusals 1 to 6.
+pub fn admit_parsed<'a>(
+    program: &Program,
+    machine: &Machine,
+    buffers: Buffers<'a>,
+) -> Result<Lent<'a>, u8> {
     let Buffers {
         image,
         map,
@@ -143,11 +158,10 @@ fn admit<'a>(machine: &Machine, buffers: Buffers<'a>) -> Result<(Program, Lent<'
         outputs,
         inputs,
     } = buffers;
-    let program = image::parse(image)?;
     if map.len() < image.len() {
         return Err(number::MAP_SHORT);
     }
-    if !depths::fits(&program, image, map) {
+    if !depths::fits(program, image, map) {
         return Err(number::MAP_UNFIT);
     }
     if !program.store_fits(store.len()) {
@@ -156,17 +170,16 @@ fn admit<'a>(machine: &Machine, buffers: Buffers<'a>) -> Result<(Program, Lent<'
     let (Ok(outputs), Ok(inputs)) = (outputs.try_into(), inputs.try_into()) else {
         return Err(number::CHANNEL_COUNT);
     };
-    if !machine.is_machine(&program, map, store.len()) {
+    if !machine.is_machine(program, map, store.len()) {
         return Err(number::NOT_A_MACHINE);
     }
-    let lent = Lent {
+    Ok(Lent {
         image,
         map,
         store,
         outputs,
         inputs,
-    };
-    Ok((program, lent))
+    })
 }
 
 /// "A whole reading": load, start and run with "W = 4,096, inputs 0, outputs

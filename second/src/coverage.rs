@@ -1,8 +1,8 @@
 //! What generated cases reach: opcodes, traps of opcodes, refusals, what A.2
 //! makes of result counts, what A.3 makes of code that is not whole, what
 //! collides in transfers, what A.5 makes of saved depths, what A.6 makes of
-//! unsigned results, what A.7 makes of lines, what A.8 makes of traps, and what A.9
-//! makes of READs.
+//! unsigned results, what A.7 makes of lines, what A.8 makes of traps, what A.9 makes
+//! of READs, and what A.10 makes of numbers of modules.
 
 use crate::case::{replay, Case};
 use crate::channels::Channels;
@@ -11,6 +11,7 @@ use crate::image::parse;
 use crate::lent::LentMaps;
 use crate::lines::ClockLines;
 use crate::machine::Machine;
+use crate::modules::Modules;
 use crate::number::*;
 use crate::opcode::{self, row, PAIRS};
 use crate::pair::first_address;
@@ -22,7 +23,8 @@ use crate::transfers::Transfers;
 use crate::traps::Traps;
 use crate::unsigned::Unsigned;
 use crate::whole::Whole;
-use std::fmt::Write;
+use std::fmt::{Display, Write};
+use std::ops::RangeInclusive;
 
 /// Counts of what was reached.
 pub struct Coverage {
@@ -45,6 +47,7 @@ pub struct Coverage {
     requests: Requests,
     traps: Traps,
     channels: Channels,
+    modules: Modules,
     cases: u64,
 }
 
@@ -55,6 +58,16 @@ pub type Reached = (&'static str, Vec<(String, u64)>);
 pub fn named<T: ToString>(names: &[T], counts: &[u64]) -> Vec<(String, u64)> {
     let names = names.iter().map(|name| name.to_string());
     names.zip(counts.iter().copied()).collect()
+}
+
+/// A number, or the first and the last of several.
+pub fn range_name<T: Display + PartialEq>(range: &RangeInclusive<T>) -> String {
+    let (first, last) = (range.start(), range.end());
+    if first == last {
+        first.to_string()
+    } else {
+        format!("{first} to {last}")
+    }
 }
 
 /// Counts of steps.
@@ -174,6 +187,7 @@ impl Coverage {
             requests: Requests::default(),
             traps: Traps::default(),
             channels: Channels::default(),
+            modules: Modules::default(),
             cases: 0,
         };
         cases.for_each(|case| coverage.add(&case));
@@ -195,6 +209,7 @@ impl Coverage {
         self.requests.add(case, &outcome);
         self.traps.add(case, &outcome);
         self.channels.add(case, &outcome);
+        self.modules.add(case, &outcome);
         for run in outcome.runs {
             let answer = run.answer;
             match answer.number {
@@ -264,7 +279,7 @@ impl Coverage {
         faults
     }
 
-    /// What was reached of A.2, of A.3, of transfers, and of A.5 to A.9.
+    /// What was reached of A.2, of A.3, of transfers, and of A.5 to A.10.
     fn kinds(&self) -> impl Iterator<Item = Reached> {
         let mut lines = self.results.reached();
         lines.extend(self.whole.reached());
@@ -276,6 +291,7 @@ impl Coverage {
         lines.extend(self.requests.reached());
         lines.extend(self.traps.reached());
         lines.extend(self.channels.reached());
+        lines.extend(self.modules.reached());
         lines.into_iter()
     }
 

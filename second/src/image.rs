@@ -4,6 +4,10 @@ use crate::machine::Machine;
 use crate::mark::Mark;
 use crate::number;
 
+/// A.10: "The largest image found in any cabinet has 21 modules. That becomes the
+/// limit".
+pub const MOST_MODULES: usize = 21;
+
 /// "entry position (word, below the code length), parameters (byte, 0 to 16),
 /// results (byte, 0 to 4)"
 #[derive(Clone, Copy, Debug, PartialEq, Eq)]
@@ -91,7 +95,7 @@ impl Program {
     }
 }
 
-/// Reads the image from byte 0 on.
+/// Reads the image from a byte on.
 struct Reader<'a> {
     image: &'a [u8],
     position: usize,
@@ -133,13 +137,19 @@ pub fn parse(image: &[u8]) -> Result<Program, u8> {
     if image.is_empty() || image.len() > usize::from(u16::MAX) {
         return Err(number::IMAGE_SIZE);
     }
-    let mut reader = Reader { image, position: 0 };
-    let module_count = reader.byte()?;
-    if module_count == 0 || module_count > 32 {
+    // "Byte 0 is the module count". A.10: "Refused: 2 now begins at 22."
+    let module_count = usize::from(image[0]);
+    if !(1..=MOST_MODULES).contains(&module_count) {
         return Err(number::MODULE_COUNT);
     }
+    parse_modules(image, module_count)
+}
+
+/// The same behind the count: so many modules, whatever it says.
+pub fn parse_modules(image: &[u8], module_count: usize) -> Result<Program, u8> {
+    let mut reader = Reader { image, position: 1 };
     let mut program = Program {
-        modules: Vec::with_capacity(usize::from(module_count)),
+        modules: Vec::with_capacity(module_count),
         procedures: Vec::new(),
         z: Machine::FIRST_MODULE,
     };

@@ -1,5 +1,5 @@
 //! A second interpreter of M-code, written from the paper and its change
-//! requests A.1 to A.9 alone, against which another engine is compared.
+//! requests A.1 to A.10 alone, against which another engine is compared.
 //!
 //! [`load`], [`start`] and [`run`] are the paper's calls, [`desk`] is its "A
 //! whole reading". Octal literals are the paper's opcodes, and quotations in
@@ -21,6 +21,7 @@ pub mod lent;
 pub mod lines;
 pub mod machine;
 pub mod mark;
+pub mod modules;
 pub mod number;
 pub mod opcode;
 pub mod pair;

@@ -31,7 +31,7 @@ usage: second reading [--input CH=VALUE].. [--requests WORD] [--after N] [FILE]
        second coverage [--small] [--seed N] [--cases N]
            replay generated cases and print what they reach; exit 1 if an
            opcode, a stop, a refusal, a collision of a transfer or a kind of
-           A.2, A.3 or A.5 to A.9 is missing
+           A.2, A.3 or A.5 to A.10 is missing
        second coverage CASES
            the same for the cases of a file
        second cases [--small] [--seed N] [--count N] OUT

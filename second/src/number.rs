@@ -5,7 +5,8 @@ pub const ACCEPTED: u8 = 0;
 
 /// "image of 0 or over 65,535 bytes"
 pub const IMAGE_SIZE: u8 = 1;
-/// "module count 0 or over 32"
+/// "module count 0", or over [`crate::image::MOST_MODULES`]. A.10: "2 now begins at
+/// 22."
 pub const MODULE_COUNT: u8 = 2;
 /// "image ends inside a part"
 pub const IMAGE_ENDS: u8 = 3;

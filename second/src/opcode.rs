@@ -81,6 +81,9 @@ pub const CL15: u8 = 0o377;
 /// The loads and stores of a pair of words.
 pub const PAIRS: [u8; 10] = [LLD, LED, LGD, LSD, LSD0, SLD, SED, SGD, SSD, SSD0];
 
+/// The instructions whose first operand names a module.
+pub const NAMING: [u8; 6] = [LEA, LEW, LED, SEW, SED, CX];
+
 /// The table, indexed by opcode.
 pub const TABLE: [Row; 256] = build();
 

@@ -2,7 +2,7 @@
 //! of 0 to 65,535, inside and outside, and sums that still go round.
 
 use crate::case::{Case, Outcome};
-use crate::coverage::{named, Reached};
+use crate::coverage::{named, range_name, Reached};
 use crate::exec::double;
 use crate::image::{parse, Program};
 use crate::machine::Machine;
@@ -142,7 +142,7 @@ impl Unsigned {
     pub fn reached(&self) -> Vec<Reached> {
         let mut lines = Vec::new();
         let kinds = |results: &[Interval; 3], counts: &[u64; 3]| {
-            let names = results.each_ref().map(name);
+            let names = results.each_ref().map(range_name);
             named(&names, counts)
         };
         for (i, operator) in OPERATORS.iter().enumerate() {
@@ -155,15 +155,5 @@ impl Unsigned {
         let round = named(&names, &self.round);
         lines.push(("steps with a sum that goes round at", round));
         lines
-    }
-}
-
-/// A result, or the first and the last of several.
-fn name(results: &Interval) -> String {
-    let (first, last) = (results.start(), results.end());
-    if first == last {
-        first.to_string()
-    } else {
-        format!("{first} to {last}")
     }
 }

@@ -35,7 +35,7 @@ const OPCODES: [(&str, Cause, &[u8]); 4] = [
     (
         "images refused with 13 for no such module at",
         NO_MODULE,
-        &[LEA, LEW, LED, SEW, SED, CX],
+        &NAMING,
     ),
     (
         "images refused with 13 for no such procedure at",

@@ -3,7 +3,7 @@ use mathlib.Core.Path.{_≡_}
 use Prim.Native.Nat.{ℕ, _+_, _*_, _≤_, _<_}
 use mathlib.Core.List.{List}
 use lib.ListN.{getD, length}
-use Rattle.mcode.specs.Image.{moduleOf}
+use Rattle.mcode.specs.Image.{mostModules, moduleOf}
 use Rattle.mcode.specs.Opcode.{lengths, takens, lefts}
 use Rattle.mcode.specs.Step.{Lent}
 use Rattle.mcode.specs.declared.Module.{Module}
@@ -11,6 +11,9 @@ use Rattle.mcode.specs.declared.Program.{Program}
 use Rattle.actions.specs.declared.Core.{Core}
 
 -- the numbers of the program, lent: the count, then six a module
+abbrev pub tableWords : ℕ
+tableWords = 6 * mostModules + 1
+
 abbrev pub moduleIn : List ℕ → ℕ → Module
 moduleIn table k = record {
   code = getD table (6 * k + 1) 0;
@@ -23,12 +26,12 @@ moduleIn table k = record {
 
 pub record Tabled (table : List ℕ) (program : Program) : Type 0 where
   pub count : program .count ≡ getD table 0 0
-  pub few : program .count ≤ 32
-  pub modules : (k : ℕ) → k < 32 → moduleOf program k ≡ moduleIn table k
+  pub few : program .count ≤ mostModules
+  pub modules : (k : ℕ) → k < mostModules → moduleOf program k ≡ moduleIn table k
 
 -- the module's own numbers are in the registers, and the place is in its code
 pub record Anchored (table : List ℕ) (r : Core) : Type 0 where
-  pub few : r .unit < 32
+  pub few : r .unit < mostModules
   pub start : r .start ≡ moduleIn table (r .unit) .code
   pub g : r .g .0 ≡ moduleIn table (r .unit) .base
   pub own : r .start ≤ r .pc
@@ -36,7 +39,7 @@ pub record Anchored (table : List ℕ) (r : Core) : Type 0 where
 -- the bases that the instructions use are those of the registers and the table
 pub record Based (table : List ℕ) (r : Core) (bases : List ℕ) : Type 0 where
   pub own : getD bases (r .unit) 0 ≡ r .g .0
-  pub named : (k : ℕ) → k < 32 → getD bases k 0 ≡ getD table (6 * k + 4) 0
+  pub named : (k : ℕ) → k < mostModules → getD bases k 0 ≡ getD table (6 * k + 4) 0
 
 -- the definition's lent things are those behind the references
 pub record Lends (bytes numbers marks words : List ℕ) (lent : Lent) : Type 0 where

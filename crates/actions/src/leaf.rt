@@ -1,5 +1,6 @@
 use crate::Core;
 use crate::Stepped;
+use crate::TABLE_WORDS;
 use mcode::Address;
 use mcode::Stop;
 use mcode::stop_code;
@@ -8,6 +9,7 @@ ghost use mathlib.Core.Path.{_≡_};
 ghost use Prim.Native.Nat.{_+_, _-_, _≤_, _<_, _*_};
 ghost use lib.ListN.{length, getD, set};
 ghost use Rattle.mcode.specs.Word.{wordOf};
+ghost use Rattle.mcode.specs.Image.{mostModules};
 ghost use Rattle.mcode.specs.Depths.{forward as ahead, back as behind};
 ghost use Rattle.mcode.specs.Machine.{address, stopNumber, stopCode};
 ghost use Rattle.mcode.specs.Decode.{sum};
@@ -45,8 +47,8 @@ pub fn plus(a: Address, n: u16) -> Address
 }
 
 // The base of module k.
-pub fn base_of(table: &[u16; 193], k: u16) -> Address
-    requires { ⌜ k < 32 ⌝ }
+pub fn base_of(table: &[u16; TABLE_WORDS], k: u16) -> Address
+    requires { ⌜ k < mostModules ⌝ }
     ensures { λ q. ⌜ q ≡ address (getD (now (table .entry)) (6 * k + 4) 0) ⌝ }
 {
     let i = 6 * k as usize + 4;

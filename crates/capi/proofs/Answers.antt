@@ -8,7 +8,7 @@ use lib.ListN.{length, getD, drop}
 use lib.Dec.{ltb, leb, eqb}
 use borrow.Author.Tests.{leb-true, leb-false, le-ltb, le-leb, ltb-true}
 use Rattle.mcode.specs.Word.{pick, and}
-use Rattle.mcode.specs.Image.{parse}
+use Rattle.mcode.specs.Image.{mostModules, parse}
 use Rattle.mcode.specs.Depths.{mapFits}
 use Rattle.mcode.specs.Machine.{State, Live, state, live, machine, zeroMachine, isMachine}
 use Rattle.mcode.specs.Step.{stepOf, stepRead}
@@ -69,7 +69,7 @@ module _ (image map inputs : List ℕ) (n w : ℕ) (words store outputs : List �
   abbrev in-module : ℕ → State
   in-module k = state (machine (registersIn k words) (drop 8 words)) store outputs
 
-  no-machine : (k : ℕ) → 32 ≤ k → leb 1 (parse image .refusal) ≡ false → isMachine (parse image .program) map (length store) (in-module k .machine) ≡ false
+  no-machine : (k : ℕ) → mostModules ≤ k → leb 1 (parse image .refusal) ≡ false → isMachine (parse image .program) map (length store) (in-module k .machine) ≡ false
   unfolding isMachine
   no-machine k l e =
       let z : parse image .refusal ≡ 0 = omega (arith, leb-false 1 (parse image .refusal) e) in
@@ -100,7 +100,7 @@ module _ (image map inputs : List ℕ) (n w : ℕ) (words store outputs : List �
       first true e r = leb-true 1 (parse image .refusal) e
       first false e r = r
 
-  refusal-is : (k : ℕ) → 32 ≤ k → runRefusal image map inputs (in-module k) ≡ number
+  refusal-is : (k : ℕ) → mostModules ≤ k → runRefusal image map inputs (in-module k) ≡ number
   unfolding runRefusal
   refusal-is k l = go (leb 1 (parse image .refusal)) refl
     where
@@ -108,7 +108,7 @@ module _ (image map inputs : List ℕ) (n w : ℕ) (words store outputs : List �
       go true e = rw e refl
       go false e = rw (no-machine k l e) refl
 
-  far : (k : ℕ) → 32 ≤ k → runOf image map inputs n (live (in-module k) w) ≡ refused number (live (in-module k) w)
+  far : (k : ℕ) → mostModules ≤ k → runOf image map inputs n (live (in-module k) w) ≡ refused number (live (in-module k) w)
   unfolding runOf
   far k l = rw (refusal-is k l, le-leb 1 number some) refl
 

@@ -5,6 +5,7 @@ use mathlib.Core.List.{List}
 use lib.Dec.{eqb, leb, ltb}
 use lib.ListN.{length, getD}
 use Rattle.mcode.specs.Word.{pick, and}
+use Rattle.mcode.specs.Image.{baseCopy, mostModules}
 use Rattle.listing.specs.First.{firstFrom}
 use Rattle.console.specs.declared.caught.Caught.{Caught}
 use Rattle.console.specs.declared.caught.Turn.{Turn}
@@ -16,13 +17,13 @@ noneCaught = record { number = 0; process = 0; unit = 0; pc = 0 }
 abbrev pub isTrap : ℕ → Bool
 isTrap n = and (leb 32 n) (leb n 40)
 
--- no image has more than 32 modules
-abbrev pub atMost32 : ℕ → ℕ
-atMost32 n = pick (ltb 32 n) 32 n
+-- no image has more than 21 modules
+abbrev pub fewModules : ℕ → ℕ
+fewModules n = pick (ltb mostModules n) mostModules n
 
--- g is word 32 + k, the copy of module k's base
+-- g is the copy of module k's base
 abbrev pub isBase : List ℕ → ℕ → ℕ → Bool
-isBase store g k = eqb (getD store (32 + k) 0) g
+isBase store g k = eqb (getD store (baseCopy + k) 0) g
 
 -- the first of `count` modules whose base is g; `count` where there is none
 unfoldable pub basedOn : List ℕ → ℕ → ℕ → ℕ
@@ -35,14 +36,14 @@ recordTells store count p =
     let k = basedOn store count (getD store p 0) in
     pick (isTrap n) (pick (ltb k count) (record { number = n; process = p; unit = k; pc = getD store (p + 2) 0 }) noneCaught) noneCaught
 
--- the process that word 15 names, with a whole record in the store
+-- the process that word 15 names, with a whole record in the store; a store that has not all copies of bases tells nothing
 unfoldable pub lastCaught : List ℕ → ℕ → Caught
 lastCaught store modules =
     let p = getD store 15 0 in
-    pick (ltb (length store) 64) noneCaught
+    pick (ltb (length store) (baseCopy + mostModules)) noneCaught
     (pick (eqb p 0) noneCaught
     (pick (ltb (length store) (p + 8)) noneCaught
-    (recordTells store (atMost32 modules) p)))
+    (recordTells store (fewModules modules) p)))
 
 -- 256 with a on top of the stack and c below it goes itself to the process q: "a and c are addresses; q = word a"
 unfoldable pub goesTo : List ℕ → ℕ → ℕ → ℕ → Bool

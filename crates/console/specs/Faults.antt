@@ -5,7 +5,7 @@ use Prim.Native.Nat.{ℕ, _+_, _-_, _≤_, _<_}
 use lib.Dec.{eqb, ltb}
 use lib.ListN.{length, take, set}
 use Rattle.mcode.specs.Word.{pick, or}
-use Rattle.mcode.specs.Image.{parse}
+use Rattle.mcode.specs.Image.{mostModules, parse}
 use Rattle.explain.specs.declared.Why.{Why}
 use Rattle.explain.specs.Reason.{Reasoned}
 use Rattle.console.specs.declared.print.Place.{Place}
@@ -29,9 +29,9 @@ CountRefused image number m = parse (set image 0 (m + 1)) .refusal ≡ number
 abbrev pub AtByte : List ℕ → ℕ → (ℕ → Place) → Place → Type 0
 AtByte image number f r = (n : ℕ) × (Least (PrefixRefused image number) (length image) n) × (r ≡ f (n - 1))
 
--- the first module with which the image is refused so
+-- the first module with which the image is refused so; the last that an image has, where no sooner one is
 abbrev pub InModule : List ℕ → ℕ → (ℕ → Type 0) → Type 0
-InModule image number f = (m : ℕ) × (Least (CountRefused image number) 31 m) × f m
+InModule image number f = (m : ℕ) × (Least (CountRefused image number) (mostModules - 1) m) × f m
 
 -- An empty image has no place. 2: byte 0. 3: in a module, at the image's end. 4: a byte. 5 and 6: in a module, a byte.
 unfoldable pub Placed : List ℕ → ℕ → Place → Type 0

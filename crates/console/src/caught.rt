@@ -2,10 +2,16 @@
 // P + 6 and the process P in word 15, and the record at P has the module's base G and the position of the trapping instruction.
 use listing::bytes::byte_from;
 use listing::bytes::word_at;
+use mcode::MOST_MODULES;
+use mcode::Machine;
 ghost use mathlib.Core.Path.{_≡_};
 ghost use Prim.Native.Nat.{_≤_};
 ghost use lib.ListN.{getD};
-ghost use Rattle.console.specs.Caught.{noneCaught, isTrap, atMost32, basedOn, recordTells, lastCaught, goesTo, isCaught};
+ghost use Rattle.mcode.specs.Image.{mostModules};
+ghost use Rattle.console.specs.Caught.{noneCaught, isTrap, fewModules, basedOn, recordTells, lastCaught, goesTo, isCaught};
+
+// The word after the copies of the bases.
+const COPIES_END: usize = Machine::BASE_COPY + MOST_MODULES;
 
 // The trap's number, 0 where none is told of; the process that was left; the module and the position in it.
 pub struct Caught {
@@ -36,23 +42,24 @@ pub fn is_trap(n: u16) -> bool
     n <= 40
 }
 
-fn at_most_32(n: usize) -> usize
-    ensures { λ r. ⌜ (r ≡ atMost32 n) × (r ≤ 32) ⌝ }
+// No image has more modules.
+fn few_modules(n: usize) -> usize
+    ensures { λ r. ⌜ (r ≡ fewModules n) × (r ≤ mostModules) ⌝ }
 {
-    if 32 < n {
-        return 32;
+    if MOST_MODULES < n {
+        return MOST_MODULES;
     }
     n
 }
 
-// The first of `count` modules whose base is g, or the count: words 32 on are copies of the bases.
+// The first of `count` modules whose base is g, or the count: the store has copies of the bases.
 fn based_on(store: &[u16], count: usize, g: u16) -> usize
-    requires { ⌜ count ≤ 32 ⌝ }
+    requires { ⌜ count ≤ mostModules ⌝ }
     ensures { λ r. ⌜ (r ≡ basedOn (now (store .entry)) count g) × (r ≤ count) ⌝ }
 {
     let mut k: usize = 0;
     while k < count {
-        if word_at(store, 32 + k) == g {
+        if word_at(store, Machine::BASE_COPY + k) == g {
             return k;
         }
         k += 1;
@@ -62,7 +69,7 @@ fn based_on(store: &[u16], count: usize, g: u16) -> usize
 
 // What the record at p tells.
 fn record_tells(store: &[u16], count: usize, p: u16) -> Caught
-    requires { ⌜ count ≤ 32 ⌝ }
+    requires { ⌜ count ≤ mostModules ⌝ }
     ensures { λ r. ⌜ r ≡ recordTells (now (store .entry)) count p ⌝ }
 {
     let at = p as usize;
@@ -87,7 +94,7 @@ fn record_tells(store: &[u16], count: usize, p: u16) -> Caught
 pub fn last_caught(store: &[u16], modules: usize) -> Caught
     ensures { λ r. ⌜ r ≡ lastCaught (now (store .entry)) modules ⌝ }
 {
-    if store.len() < 64 {
+    if store.len() < COPIES_END {
         return none();
     }
     let p = word_at(store, 15);
@@ -97,7 +104,7 @@ pub fn last_caught(store: &[u16], modules: usize) -> Caught
     if store.len() < p as usize + 8 {
         return none();
     }
-    record_tells(store, at_most_32(modules), p)
+    record_tells(store, few_modules(modules), p)
 }
 
 // The same, for the modules of an image, which its byte 0 counts.

@@ -2,10 +2,15 @@
 // must be present before its value is judged, so the byte at fault is the last one of the shortest prefix that is refused the same.
 use crate::print::Place;
 use image::read_image;
+use mcode::MOST_MODULES;
 ghost use mathlib.Core.Path.{_≡_};
 ghost use Prim.Native.Nat.{_-_, _<_};
 ghost use lib.ListN.{length};
+ghost use Rattle.mcode.specs.Image.{mostModules};
 ghost use Rattle.console.specs.Faults.{Least, PrefixRefused, CountRefused, Placed, Found};
+
+// The number of the last module that an image can have.
+const LAST_MODULE: u8 = (MOST_MODULES - 1) as u8;
 
 // The length of the shortest prefix that is refused with the number; the image's length where no shorter one is.
 pub fn shortest(image: &[u8], number: u16) -> usize
@@ -23,14 +28,14 @@ pub fn shortest(image: &[u8], number: u16) -> usize
 }
 
 // The first module with which the image is refused with the number: the least m such that the image of m + 1 modules, by its byte
-// 0, is refused so; 31 where no lesser one is. Byte 0 is put back.
+// 0, is refused so; LAST_MODULE where no lesser one is. Byte 0 is put back.
 pub fn module_at(image: &mut [u8], number: u16) -> usize
     requires { ⌜ 0 < length (now image) ⌝ }
-    ensures { λ r. ⌜ (now (image .exit) ≡ now (image .entry)) × (Least (CountRefused (now (image .entry)) number) 31 r) ⌝ }
+    ensures { λ r. ⌜ (now (image .exit) ≡ now (image .entry)) × (Least (CountRefused (now (image .entry)) number) (mostModules - 1) r) ⌝ }
 {
     let count = image[0];
     let mut m: u8 = 0;
-    while m < 31 {
+    while m < LAST_MODULE {
         image[0] = m + 1;
         let parsed = read_image(image);
         if parsed.refusal == number {

@@ -1,11 +1,20 @@
 // The words of the paper for each refusal and each stop. What writes them answers as `io::write_all` does.
+use mcode::MOST_MODULES;
 ghost use Prim.Native.Nat.{_≤_};
+
+// Refusal 2, with the number of modules that an image has at most.
+fn module_count(fd: i32) -> bool {
+    if io::write_all(fd, b"module count 0 or over ") {
+        return io::print_decimal(fd, MOST_MODULES as u64);
+    }
+    false
+}
 
 // A refusal, 1 to 13.
 pub fn refusal(fd: i32, number: u16) -> bool {
     match number {
         1 => io::write_all(fd, b"image of 0 or over 65,535 bytes"),
-        2 => io::write_all(fd, b"module count 0 or over 32"),
+        2 => module_count(fd),
         3 => io::write_all(fd, b"image ends inside a part"),
         4 => io::write_all(fd, b"bytes after the last module"),
         5 => io::write_all(fd, b"bit 3 to 7 of a bit map"),

@@ -9,7 +9,7 @@ use lib.Dec.{eqb, ltb}
 use lib.ListN.{length, getD, length-map, List·getD-eq-default}
 use borrow.Author.Tests.{eq-eqb, ne-eqb, ltb-true, le-ltb}
 use Rattle.mcode.specs.Word.{pick, and}
-use Rattle.mcode.specs.Image.{basesOf, noModule}
+use Rattle.mcode.specs.Image.{mostModules, basesOf, noModule}
 use Rattle.mcode.specs.Depths.{marked}
 use Rattle.mcode.specs.Step.{Lent, unitOf, unitBased, standing}
 use Rattle.mcode.specs.declared.Module.{Module}
@@ -73,7 +73,7 @@ module _ {bytes table marks words : List ℕ} {lent : Lent} (lends : Lends bytes
       choose : (t : Bool) → ltb k (countIn table) ≡ t → standing lent k q d ≡ standsIn table marks k q d
       choose true t =
           let few = lends .tabled .few in
-          let h : k < 32 = omega (arith, ltb-true k (countIn table) t, lends .tabled .count, few) in
+          let h : k < mostModules = omega (arith, ltb-true k (countIn table) t, lends .tabled .count, few) in
           rw (same, lends .map, lends .tabled .modules k h)
       choose false t = rw (same, t)
 
@@ -107,6 +107,6 @@ module _ {bytes table marks words : List ℕ} {lent : Lent} (lends : Lends bytes
     pub find : standsIn table marks (firstBased table g) q d ≡ true → unitBased (lent .program) g ≡ firstBased table g
     find = same agreed .1
 
--- a module where a position stands is one of the 32
-pub stands-few : (table map : List ℕ) (k q d : ℕ) → Mapped table map → standsIn table map k q d ≡ true → k < 32
+-- a module where a position stands is one of the modules
+pub stands-few : (table map : List ℕ) (k q d : ℕ) → Mapped table map → standsIn table map k q d ≡ true → k < mostModules
 stands-few table map k q d m e = omega (arith, m .few, ltb-true k (countIn table) (and-both (ltb k (countIn table)) (marked map (moduleIn table k) q d) e .0))

@@ -4,7 +4,7 @@ use mathlib.Core.List.{List}
 use Prim.Native.Nat.{ℕ, _+_, _*_, _-_, _≤_, _<_}
 use native.Mathlib.Omega.{arith}
 use lib.ListN.{getD, List·getD-map}
-use Rattle.mcode.specs.Image.{basesOf, noModule, moduleOf}
+use Rattle.mcode.specs.Image.{mostModules, basesOf, noModule, moduleOf}
 use Rattle.mcode.specs.Depths.{entry, markAt}
 use Rattle.mcode.specs.Step.{Lent}
 use Rattle.mcode.specs.declared.Module.{Module}
@@ -15,7 +15,7 @@ use Rattle.actions.specs.Core.{Stays, stepped}
 use Rattle.actions.specs.Table.{moduleIn, Tabled, Anchored, Based, Lends}
 use Rattle.control.specs.Frames.{inFrame, inModule}
 
-pub base-in : {table : List ℕ} {program : Program} → Tabled table program → (k : ℕ) → k < 32 → getD (basesOf program) k 0 ≡ getD table (6 * k + 4) 0
+pub base-in : {table : List ℕ} {program : Program} → Tabled table program → (k : ℕ) → k < mostModules → getD (basesOf program) k 0 ≡ getD table (6 * k + 4) 0
 base-in {table} {program} t k h = List·getD-map (λ (m : Module). m .base) (program .modules) k noModule ∙ ap (λ (m : Module). m .base) (t .modules k h)
 
 pub based : {table : List ℕ} {program : Program} {r : Core} → Tabled table program → Anchored table r → Based table r (basesOf program)
@@ -24,7 +24,7 @@ based {table} {program} {r} t a = record { own = base-in t (r .unit) (a .few) �
 pub anchored-on : {table : List ℕ} {r q : Core} → Anchored table r → Stays r q → Anchored table q
 anchored-on {table} {r} {q} a s = record { few = rw (s .unit) (a .few); start = rw (s .unit, s .start) (a .start); g = rw (s .unit, s .g) (a .g); own = s .own (a .own) }
 
-pub anchored-in : (table : List ℕ) (k at l s : ℕ) (r : Core) (q : Stepped) → k < 32 → q ≡ stepped 0 0 (inModule table k at l s r) → Anchored table (q .core)
+pub anchored-in : (table : List ℕ) (k at l s : ℕ) (r : Core) (q : Stepped) → k < mostModules → q ≡ stepped 0 0 (inModule table k at l s r) → Anchored table (q .core)
 anchored-in table k at l s r q h e = rw e (record { few = h; start = refl; g = refl; own = omega arith })
 
 pub anchored-as : (table : List ℕ) (n : ℕ) (r : Core) (q : Stepped) → Anchored table r → q ≡ stepped n 0 r → Anchored table (q .core)

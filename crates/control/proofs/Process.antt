@@ -9,6 +9,7 @@ use lib.ListN.{length, getD, set, replicate}
 use borrow.Author.Tests.{leb-true, ltb-true}
 use Rattle.mcode.specs.declared.Stop.{Stop}
 use Rattle.mcode.specs.Word.{pick, and, or}
+use Rattle.mcode.specs.Image.{mostModules}
 use Rattle.mcode.specs.Machine.{State, go, position, stopNumber, stopCode}
 use Rattle.mcode.specs.Step.{Lent, Process, processAt, isProcess, standing, unitBased, restored, written, savedStore, restoredMachine, isTarget, changed, switched, isCaught, caught, trapped}
 use Rattle.mcode.proofs.Tests.{and-both}
@@ -74,7 +75,7 @@ written-six g l at m s v p store =
     let e : p + 4 + 1 ≡ p + 5 = omega arith in
     rw (b, c, d, e)
 
-pub anchored-resumed : (table : List ℕ) (k b p : ℕ) (x : Process) (r : Core) (q : Stepped) → k < 32 → q ≡ stepped 0 0 (resumed table k b p x r) → Anchored table (q .core)
+pub anchored-resumed : (table : List ℕ) (k b p : ℕ) (x : Process) (r : Core) (q : Stepped) → k < mostModules → q ≡ stepped 0 0 (resumed table k b p x r) → Anchored table (q .core)
 anchored-resumed table k b p x r q h e = rw e (record { few = h; start = refl; g = refl; own = omega arith })
 
 pub not-so : {k t n : ℕ} → k ≡ t → (k ≡ n → ⊥) → t ≡ n → ⊥
@@ -85,7 +86,7 @@ module _ (table marks store : List ℕ) (q : ℕ) where
   abbrev Passes : Bool
   Passes = and (sized (length store) q (processAt store q)) (standsIn table marks (firstBased table (processAt store q .g)) (processAt store q .pc) (processAt store q .k))
 
-  passes : (targetIn table marks store q ≡ 32 → ⊥) → (Passes ≡ true) × (targetIn table marks store q ≡ firstBased table (processAt store q .g))
+  passes : (targetIn table marks store q ≡ mostModules → ⊥) → (Passes ≡ true) × (targetIn table marks store q ≡ firstBased table (processAt store q .g))
   unfolding targetIn
   passes n = by Passes refl
     where
@@ -93,17 +94,17 @@ module _ (table marks store : List ℕ) (q : ℕ) where
       by true e = (e, rw e refl)
       by false e = absurd (n (rw e refl))
 
-  pub target-fits : (targetIn table marks store q ≡ 32 → ⊥) → sized (length store) q (processAt store q) ≡ true
+  pub target-fits : (targetIn table marks store q ≡ mostModules → ⊥) → sized (length store) q (processAt store q) ≡ true
   target-fits n = and-both (sized (length store) q (processAt store q)) _ (passes n .0) .0
 
   module _ (m : Mapped table marks) where
-    pub target-few : (targetIn table marks store q ≡ 32 → ⊥) → targetIn table marks store q < 32
+    pub target-few : (targetIn table marks store q ≡ mostModules → ⊥) → targetIn table marks store q < mostModules
     target-few n =
         let (t, e) = passes n in
         let x = processAt store q in
         rw e (stands-few table marks (firstBased table (x .g)) (x .pc) (x .k) m (and-both (sized (length store) q x) _ t .1))
 
-    fails : targetIn table marks store q ≡ 32 → Passes ≡ false
+    fails : targetIn table marks store q ≡ mostModules → Passes ≡ false
     unfolding targetIn
     fails z = by Passes refl
       where
@@ -118,14 +119,14 @@ module _ {bytes table marks words : List ℕ} {lent : Lent} (h : Lends bytes tab
   abbrev x : State
   x = held r stack store out
 
-  is-target : (targetIn table marks store q ≡ 32 → ⊥) → isTarget lent q x ≡ true
+  is-target : (targetIn table marks store q ≡ mostModules → ⊥) → isTarget lent q x ≡ true
   is-target t = process-in h (length store) q (processAt store q) ∙ passes table marks store q t .0
 
-  no-target : Mapped table marks → targetIn table marks store q ≡ 32 → isTarget lent q x ≡ false
+  no-target : Mapped table marks → targetIn table marks store q ≡ mostModules → isTarget lent q x ≡ false
   no-target m z = process-in h (length store) q (processAt store q) ∙ fails table marks store q m z
 
   -- the change to a process that passes the tests, with the old one saved over whichever store
-  changed-in : Anchored table r → (targetIn table marks store q ≡ 32 → ⊥) → (b to n c : ℕ) (over : List ℕ)
+  changed-in : Anchored table r → (targetIn table marks store q ≡ mostModules → ⊥) → (b to n c : ℕ) (over : List ℕ)
       → leftBy x (go (changed lent b (position to) n c q over x))
       ≡ result (stepped 0 0 (resumed table (targetIn table marks store q) b q (processAt store q) r))
       (restored store (processAt store q .k) (processAt store q .s - 1 - processAt store q .k) (replicate 16 0))
@@ -137,7 +138,7 @@ module _ {bytes table marks words : List ℕ} {lent : Lent} (h : Lends bytes tab
       rw (f, find h _ _ _ e, based (h .tabled) a .own, from-start)
 
   -- a transfer to it, and one that is 35
-  pub switched-in : Anchored table r → (targetIn table marks store q ≡ 32 → ⊥) → (b to n c : ℕ)
+  pub switched-in : Anchored table r → (targetIn table marks store q ≡ mostModules → ⊥) → (b to n c : ℕ)
       → leftBy x (switched lent b (position to) n c q x)
       ≡ result (stepped 0 0 (resumed table (targetIn table marks store q) b q (processAt store q) r))
       (restored store (processAt store q .k) (processAt store q .s - 1 - processAt store q .k) (replicate 16 0))
@@ -145,37 +146,37 @@ module _ {bytes table marks words : List ℕ} {lent : Lent} (h : Lends bytes tab
   unfolding switched
   switched-in a t b to n c = rw (is-target t) (changed-in a t b to n c store)
 
-  pub switched-not : Mapped table marks → targetIn table marks store q ≡ 32 → (b to n c : ℕ) → leftBy x (switched lent b (position to) n c q x) ≡ result (stepped 35 0 r) stack store out
+  pub switched-not : Mapped table marks → targetIn table marks store q ≡ mostModules → (b to n c : ℕ) → leftBy x (switched lent b (position to) n c q x) ≡ result (stepped 35 0 r) stack store out
   unfolding switched
   switched-not m z b to n c = rw (no-target m z)
 
 -- ---- a trap that the process in word 14 catches, and a stop that none does
 
-both : (t u : Bool) (v : ℕ) → (pick (and t u) v 32 ≡ 32 → ⊥) → (t ≡ true) × (u ≡ true)
+both : (t u : Bool) (v : ℕ) → (pick (and t u) v mostModules ≡ mostModules → ⊥) → (t ≡ true) × (u ≡ true)
 both true true v n = (refl, refl)
 both true false v n = absurd (n refl)
 both false u v n = absurd (n refl)
 
-not-all : (t u w : Bool) (v : ℕ) → (v ≡ 32 → w ≡ false) → pick (and t u) v 32 ≡ 32 → and t (and u w) ≡ false
+not-all : (t u w : Bool) (v : ℕ) → (v ≡ mostModules → w ≡ false) → pick (and t u) v mostModules ≡ mostModules → and t (and u w) ≡ false
 not-all true true w v f z = f z
 not-all true false w v f z = refl
 not-all false u w v f z = refl
 
 module _ (table marks store : List ℕ) (p number : ℕ) where
-  catches : (catcherIn table marks store p number ≡ 32 → ⊥) → (leb 32 number ≡ true) × (not (or (eqb (getD store 14 0) 0) (eqb (getD store 14 0) p)) ≡ true)
+  catches : (catcherIn table marks store p number ≡ mostModules → ⊥) → (leb 32 number ≡ true) × (not (or (eqb (getD store 14 0) 0) (eqb (getD store 14 0) p)) ≡ true)
   unfolding catcherIn
   catches n = both (leb 32 number) _ (targetIn table marks store (getD store 14 0)) n
 
-  catcher-target : (catcherIn table marks store p number ≡ 32 → ⊥) → catcherIn table marks store p number ≡ targetIn table marks store (getD store 14 0)
+  catcher-target : (catcherIn table marks store p number ≡ mostModules → ⊥) → catcherIn table marks store p number ≡ targetIn table marks store (getD store 14 0)
   unfolding catcherIn
   catcher-target n = rw (catches n .0, catches n .1) refl
 
   -- of the process that catches it, which is in module k
-  module _ {k : ℕ} (e : k ≡ catcherIn table marks store p number) (n : k ≡ 32 → ⊥) where
-    target-is : targetIn table marks store (getD store 14 0) ≡ 32 → ⊥
+  module _ {k : ℕ} (e : k ≡ catcherIn table marks store p number) (n : k ≡ mostModules → ⊥) where
+    target-is : targetIn table marks store (getD store 14 0) ≡ mostModules → ⊥
     target-is = not-so (catcher-target (not-so e n)) (not-so e n)
 
-    pub caught-few : Mapped table marks → k < 32
+    pub caught-few : Mapped table marks → k < mostModules
     caught-few m = rw (e, catcher-target (not-so e n)) (target-few table marks store (getD store 14 0) m target-is)
 
     pub caught-fits : {q : ℕ} → q ≡ getD store 14 0 → sized (length store) q (processAt store q) ≡ true
@@ -188,7 +189,7 @@ module _ {bytes table marks words : List ℕ} {lent : Lent} (h : Lends bytes tab
   abbrev c : ℕ
   c = catcherIn table marks store (r .p .0) (stopNumber k)
 
-  pub trapped-in : Anchored table r → (c ≡ 32 → ⊥)
+  pub trapped-in : Anchored table r → (c ≡ mostModules → ⊥)
       → leftBy y (trapped lent k y)
       ≡ result (stepped 0 0 (resumed table c 1 (getD store 14 0) (processAt store (getD store 14 0)) r))
       (restored store (processAt store (getD store 14 0) .k) (processAt store (getD store 14 0) .s - 1 - processAt store (getD store 14 0) .k) (replicate 16 0))
@@ -197,10 +198,10 @@ module _ {bytes table marks words : List ℕ} {lent : Lent} (h : Lends bytes tab
   trapped-in a n =
       let (t, u) = catches table marks store (r .p .0) (stopNumber k) n in
       let e = catcher-target table marks store (r .p .0) (stopNumber k) n in
-      let m : targetIn table marks store (getD store 14 0) ≡ 32 → ⊥ = not-so e n in
+      let m : targetIn table marks store (getD store 14 0) ≡ mostModules → ⊥ = not-so e n in
       rw (t, u, is-target h r (getD store 14 0) stack store out m, e) (changed-in h r (getD store 14 0) stack store out a m 1 (r .pc - r .start) (r .depth) 15 (set store (r .p .0 + 6) (stopNumber k)))
 
-  pub trapped-not : Mapped table marks → c ≡ 32 → leftBy y (trapped lent k y) ≡ result (stepped (stopNumber k) (stopCode k) r) stack store out
+  pub trapped-not : Mapped table marks → c ≡ mostModules → leftBy y (trapped lent k y) ≡ result (stepped (stopNumber k) (stopCode k) r) stack store out
   unfolding trapped isCaught catcherIn
   trapped-not m z =
       rw (not-all (leb 32 (stopNumber k)) (not (or (eqb (getD store 14 0) 0) (eqb (getD store 14 0) (r .p .0)))) (isTarget lent (getD store 14 0) y) (targetIn table marks store (getD store 14 0)) (no-target h r (getD store 14 0) stack store out m) z) refl

@@ -5,6 +5,7 @@ use Prim.Native.Nat.{ℕ, zero, suc, _+_, _*_, _≤_, _<_}
 use lib.ListN.{getD, length}
 use lib.Dec.{ltb, eqb}
 use Rattle.mcode.specs.Word.{pick, and}
+use Rattle.mcode.specs.Image.{mostModules}
 use Rattle.mcode.specs.Depths.{marked}
 use Rattle.actions.specs.Table.{moduleIn}
 
@@ -26,10 +27,10 @@ standsIn table map k q d = and (ltb k (countIn table)) (marked map (moduleIn tab
 
 -- the procedure records of the modules lie in the image
 pub record Entered (image table : List ℕ) : Type 0 where
-  pub few : countIn table ≤ 32
+  pub few : countIn table ≤ mostModules
   pub entries : (k n : ℕ) → k < countIn table → n < moduleIn table k .procs → moduleIn table k .table + 4 * n + 1 < length image
 
 -- the marks of the modules lie in the map
 pub record Mapped (table map : List ℕ) : Type 0 where
-  pub few : countIn table ≤ 32
+  pub few : countIn table ≤ mostModules
   pub marks : (k : ℕ) → k < countIn table → moduleIn table k .code + moduleIn table k .length ≤ length map

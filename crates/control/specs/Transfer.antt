@@ -5,7 +5,7 @@ use Prim.Native.Nat.{ℕ, _+_, _-_}
 use lib.Dec.{ltb, leb, eqb}
 use lib.ListN.{length, getD}
 use Rattle.mcode.specs.Word.{pick, and, or}
-use Rattle.mcode.specs.Image.{margin}
+use Rattle.mcode.specs.Image.{mostModules, margin}
 use Rattle.mcode.specs.Machine.{address}
 use Rattle.mcode.specs.Step.{Process, processAt}
 use Rattle.actions.specs.declared.Core.{Core}
@@ -21,18 +21,18 @@ sized w q x =
     (and (and (leb (x .k) 16) (ltb (x .k) (x .s)))
     (leb (x .s - 1 - x .k) (x .v - margin)))))
 
--- the module of the process at q, which passes the tests; 32, which is none, where it does not
+-- the module of the process at q, which passes the tests; mostModules, which is the number of none, where it does not
 unfoldable pub targetIn : List ℕ → List ℕ → List ℕ → ℕ → ℕ
 targetIn table map store q =
     let x = processAt store q in
-    pick (and (sized (length store) q x) (standsIn table map (firstBased table (x .g)) (x .pc) (x .k))) (firstBased table (x .g)) 32
+    pick (and (sized (length store) q x) (standsIn table map (firstBased table (x .g)) (x .pc) (x .k))) (firstBased table (x .g)) mostModules
 
--- the module of the process that catches a stop with this number, where P is p: "If word 14 is not 0 and not P, traps 32 to 40"; 32 where
+-- the module of the process that catches a stop with this number, where P is p: "If word 14 is not 0 and not P, traps 32 to 40"; mostModules where
 -- none does
 unfoldable pub catcherIn : List ℕ → List ℕ → List ℕ → ℕ → ℕ → ℕ
 catcherIn table map store p number =
     let q = getD store 14 0 in
-    pick (and (leb 32 number) (not (or (eqb q 0) (eqb q p)))) (targetIn table map store q) 32
+    pick (and (leb 32 number) (not (or (eqb q 0) (eqb q p)))) (targetIn table map store q) mostModules
 
 -- the process x at q in module k; "M only if b /= 0"
 abbrev pub resumed : List ℕ → ℕ → ℕ → ℕ → Process → Core → Core

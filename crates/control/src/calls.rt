@@ -5,6 +5,7 @@ use crate::frames::in_module;
 use crate::table::entry_of;
 use actions::Core;
 use actions::Stepped;
+use actions::TABLE_WORDS;
 use actions::leaf::top_of;
 use actions::leaf::trapped;
 ghost use mathlib.Core.Path.{_≡_};
@@ -41,7 +42,7 @@ fn write_external(r: Core, store: &mut [u16], to: usize)
 pub fn call(
     r: Core,
     image: &[u8],
-    table: &[u16; 193],
+    table: &[u16; TABLE_WORDS],
     store: &mut [u16],
     n: u16,
     to: usize,
@@ -69,7 +70,7 @@ pub fn call(
 pub fn call_linked(
     r: Core,
     image: &[u8],
-    table: &[u16; 193],
+    table: &[u16; TABLE_WORDS],
     stack: &mut [u16; 16],
     store: &mut [u16],
     n: u16,
@@ -99,7 +100,7 @@ pub fn call_linked(
 pub fn call_external(
     r: Core,
     image: &[u8],
-    table: &[u16; 193],
+    table: &[u16; TABLE_WORDS],
     store: &mut [u16],
     k: u16,
     n: u16,

@@ -4,6 +4,7 @@ use crate::table::number;
 use crate::table::stands;
 use actions::Core;
 use actions::Stepped;
+use actions::TABLE_WORDS;
 use actions::compute::put_word;
 use actions::leaf::trapped;
 use mcode::Address;
@@ -11,6 +12,7 @@ ghost use mathlib.Core.Path.{_≡_};
 ghost use mathlib.Core.List.{List};
 ghost use Prim.Native.Nat.{ℕ, _+_, _≤_, _<_};
 ghost use lib.ListN.{length, getD};
+ghost use Rattle.mcode.specs.Image.{mostModules};
 ghost use Rattle.mcode.specs.Decode as Act;
 ghost use Rattle.mcode.specs.Step.{Lent, backTo, unitBased};
 ghost use Rattle.actions.specs.Core.{held, result, leftBy, acted, Stays, stepped};
@@ -64,8 +66,15 @@ pub fn framed(r: Core, depth: usize, to: usize, frame: u16, top: u16) -> Stepped
 }
 
 // At a position of module k, at the depth of the registers.
-pub fn in_module(r: Core, table: &[u16; 193], k: usize, at: u16, frame: u16, top: u16) -> Stepped
-    requires { ⌜ k < 32 ⌝ }
+pub fn in_module(
+    r: Core,
+    table: &[u16; TABLE_WORDS],
+    k: usize,
+    at: u16,
+    frame: u16,
+    top: u16,
+) -> Stepped
+    requires { ⌜ k < mostModules ⌝ }
     ensures { λ q. ⌜ q ≡ stepped 0 0 (inModule (now (table .entry)) k at frame top r) ⌝ }
 {
     let start = number(table, k, 1) as usize;
@@ -115,7 +124,7 @@ pub fn follow(r: Core, stack: &mut [u16; 16], store: &[u16], n: u16, to: usize) 
 }
 
 // Back to a position of the module that returns.
-fn back_here(r: Core, table: &[u16; 193], map: &[u32], store: &[u16], at: u16) -> Stepped
+fn back_here(r: Core, table: &[u16; TABLE_WORDS], map: &[u32], store: &[u16], at: u16) -> Stepped
     requires { ⌜ Mapped (now table) (now map) ⌝ }
     requires { ⌜ Anchored (now table) r ⌝ }
     requires { ⌜ (r .depth ≤ 16) × (r .l .0 + 1 < length (now store)) × (r .start < 65536) ⌝ }
@@ -132,7 +141,7 @@ fn back_here(r: Core, table: &[u16; 193], map: &[u32], store: &[u16], at: u16) -
 }
 
 // Back to a position of the module whose base is the word at L.
-fn back_there(r: Core, table: &[u16; 193], map: &[u32], store: &[u16], at: u16) -> Stepped
+fn back_there(r: Core, table: &[u16; TABLE_WORDS], map: &[u32], store: &[u16], at: u16) -> Stepped
     requires { ⌜ Mapped (now table) (now map) ⌝ }
     requires { ⌜ Anchored (now table) r ⌝ }
     requires { ⌜ (r .depth ≤ 16) × (r .l .0 + 1 < length (now store)) ⌝ }
@@ -150,7 +159,7 @@ fn back_there(r: Core, table: &[u16; 193], map: &[u32], store: &[u16], at: u16) 
 
 // 354: "L above H is 34. Word L+2 of 7FFF hex ends. Below 8000 hex it is a position here, else minus 8000 hex in the module whose base
 // is word L."
-pub fn return_from(r: Core, table: &[u16; 193], map: &[u32], store: &[u16]) -> Stepped
+pub fn return_from(r: Core, table: &[u16; TABLE_WORDS], map: &[u32], store: &[u16]) -> Stepped
     requires { ⌜ Mapped (now table) (now map) ⌝ }
     requires { ⌜ Framed (now table) (length (now store)) r ⌝ }
     requires { ⌜ Anchored (now table) r ⌝ }

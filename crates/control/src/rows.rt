@@ -7,6 +7,7 @@ use crate::frames::follow;
 use crate::frames::return_from;
 use actions::Core;
 use actions::Stepped;
+use actions::TABLE_WORDS;
 use actions::leaf::operand;
 use actions::leaf::trapped;
 use actions::leaf::wide;
@@ -30,7 +31,7 @@ pub fn row14(
     op: u8,
     r: Core,
     image: &[u8],
-    table: &[u16; 193],
+    table: &[u16; TABLE_WORDS],
     map: &[u32],
     stack: &mut [u16; 16],
     store: &mut [u16],
@@ -96,7 +97,13 @@ fn after_call(op: u8, r: Core) -> usize
 }
 
 // 360 to 377. There is one place that calls, so that the call is compiled in line.
-pub fn row15(op: u8, r: Core, image: &[u8], table: &[u16; 193], store: &mut [u16]) -> Stepped
+pub fn row15(
+    op: u8,
+    r: Core,
+    image: &[u8],
+    table: &[u16; TABLE_WORDS],
+    store: &mut [u16],
+) -> Stepped
     requires { ⌜ op / 16 ≡ 15 ⌝ }
     requires { ⌜ Controls (now image) (now table) (length (now store)) op r ⌝ }
     requires { ⌜ Anchored (now table) r ⌝ }

@@ -1,32 +1,33 @@
 // The lent numbers: those of a module, the module of a base, and the marks of a position.
+use actions::TABLE_WORDS;
 use actions::leaf::wide;
 use marks::depth_of;
 ghost use mathlib.Core.Path.{_≡_};
 ghost use Prim.Native.Nat.{_+_, _*_, _≤_, _<_};
 ghost use lib.ListN.{length, getD};
 ghost use Rattle.mcode.specs.Word.{word};
-ghost use Rattle.mcode.specs.Image.{entryOf, procCount};
+ghost use Rattle.mcode.specs.Image.{mostModules, entryOf, procCount};
 ghost use Rattle.actions.specs.Table.{moduleIn};
 ghost use Rattle.control.specs.Table.{countIn, firstBased, standsIn, Entered, Mapped};
 
 // Number j of module k.
-pub fn number(table: &[u16; 193], k: usize, j: usize) -> u16
-    requires { ⌜ (k < 32) × (1 ≤ j) × (j ≤ 6) ⌝ }
+pub fn number(table: &[u16; TABLE_WORDS], k: usize, j: usize) -> u16
+    requires { ⌜ (k < mostModules) × (1 ≤ j) × (j ≤ 6) ⌝ }
     ensures { λ q. ⌜ q ≡ getD (now (table .entry)) (6 * k + j) 0 ⌝ }
 {
     let i = 6 * k + j;
     table[i]
 }
 
-fn count_of(table: &[u16; 193]) -> u16
+fn count_of(table: &[u16; TABLE_WORDS]) -> u16
     ensures { λ q. ⌜ q ≡ countIn (now (table .entry)) ⌝ }
 {
     table[0]
 }
 
 // The module whose base is a word, or the count of the modules.
-pub fn find_base(table: &[u16; 193], word: u16) -> usize
-    requires { ⌜ countIn (now table) ≤ 32 ⌝ }
+pub fn find_base(table: &[u16; TABLE_WORDS], word: u16) -> usize
+    requires { ⌜ countIn (now table) ≤ mostModules ⌝ }
     ensures { λ q. ⌜ q ≡ firstBased (now (table .entry)) word ⌝ }
 {
     let count = count_of(table) as usize;
@@ -48,7 +49,7 @@ fn byte_in(image: &[u8], i: usize) -> u16
 }
 
 // Whether module k is loaded and a position of it is marked with a depth.
-pub fn stands(table: &[u16; 193], map: &[u32], k: usize, at: u16, depth: usize) -> bool
+pub fn stands(table: &[u16; TABLE_WORDS], map: &[u32], k: usize, at: u16, depth: usize) -> bool
     requires { ⌜ Mapped (now table) (now map) ⌝ }
     requires { ⌜ depth ≤ 16 ⌝ }
     ensures { λ q. ⌜ q ≡ standsIn (now (table .entry)) (now (map .entry)) k at depth ⌝ }
@@ -73,7 +74,7 @@ fn word_in(image: &[u8], i: usize) -> u16
 }
 
 // The entry of procedure n of module k.
-pub fn entry_of(image: &[u8], table: &[u16; 193], k: usize, n: u16) -> u16
+pub fn entry_of(image: &[u8], table: &[u16; TABLE_WORDS], k: usize, n: u16) -> u16
     requires { ⌜ Entered (now image) (now table) ⌝ }
     requires { ⌜ (k < countIn (now table)) × (n < procCount (moduleIn (now table) k)) ⌝ }
     ensures { λ q. ⌜ q ≡ entryOf (now (image .entry)) (moduleIn (now (table .entry)) k) n ⌝ }

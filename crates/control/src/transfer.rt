@@ -6,11 +6,13 @@ use crate::table::number;
 use crate::table::stands;
 use actions::Core;
 use actions::Stepped;
+use actions::TABLE_WORDS;
 use actions::leaf::second_of;
 use actions::leaf::take_two;
 use actions::leaf::top_of;
 use actions::leaf::trapped;
 use mcode::Address;
+use mcode::MOST_MODULES;
 use mcode::Machine;
 ghost use mathlib.Core.Path.{_≡_};
 ghost use mathlib.Core.Bool.{true};
@@ -19,6 +21,7 @@ ghost use Prim.Native.Nat.{ℕ, _+_, _-_, _≤_, _<_};
 ghost use lib.Dec.{eqb};
 ghost use lib.ListN.{length, getD, set, replicate};
 ghost use Rattle.mcode.specs.Word.{pick};
+ghost use Rattle.mcode.specs.Image.{mostModules};
 ghost use Rattle.mcode.specs.Machine.{position, stopNumber, stopCode};
 ghost use Rattle.mcode.specs.Decode as Act;
 ghost use Rattle.mcode.specs.Step.{Lent, processAt, restored, written, savedStore, takenLine, trapped as trapOf};
@@ -76,8 +79,8 @@ fn mask_of(r: Core, b: u16, m: u16) -> u16
 }
 
 // No stop: the registers of the process at q, which is in module k.
-fn resume(r: Core, table: &[u16; 193], store: &[u16], k: usize, b: u16, q: u16) -> Stepped
-    requires { ⌜ (k < 32) × (sized (length (now store)) q (processAt (now store) q) ≡ true) ⌝ }
+fn resume(r: Core, table: &[u16; TABLE_WORDS], store: &[u16], k: usize, b: u16, q: u16) -> Stepped
+    requires { ⌜ (k < mostModules) × (sized (length (now store)) q (processAt (now store) q) ≡ true) ⌝ }
     ensures { λ x. ⌜ x ≡ stepped 0 0 (resumed (now (table .entry)) k b q (processAt (now (store .entry)) q) r) ⌝ }
 {
     let i = q as usize;
@@ -173,20 +176,20 @@ fn exchange(
     *stack = words;
 }
 
-// The module of the process whose record is at q, or 32 where none can go on there.
-fn target(table: &[u16; 193], map: &[u32], store: &[u16], q: u16) -> usize
+// The module of the process whose record is at q, or MOST_MODULES where none can go on there.
+fn target(table: &[u16; TABLE_WORDS], map: &[u32], store: &[u16], q: u16) -> usize
     requires { ⌜ Mapped (now table) (now map) ⌝ }
     ensures { λ k. ⌜ k ≡ targetIn (now (table .entry)) (now (map .entry)) (now (store .entry)) q ⌝ }
 {
     let i = q as usize;
     if !is_sized(store, i) {
-        return 32;
+        return MOST_MODULES;
     }
     let s = word_at(store, i + 4) as usize;
     let n = word_at(store, s - 1) as usize;
     let k = find_base(table, word_at(store, i));
     if !stands(table, map, k, word_at(store, i + 2), n) {
-        return 32;
+        return MOST_MODULES;
     }
     k
 }
@@ -194,7 +197,7 @@ fn target(table: &[u16; 193], map: &[u32], store: &[u16], q: u16) -> usize
 // To the process whose record is at q, in module k. Of the old one d words of its stack are saved; it goes on at `to`, and goes to word c.
 fn change(
     r: Core,
-    table: &[u16; 193],
+    table: &[u16; TABLE_WORDS],
     stack: &mut [u16; 16],
     store: &mut [u16],
     k: usize,
@@ -204,7 +207,7 @@ fn change(
     c: usize,
     to: usize,
 ) -> Stepped
-    requires { ⌜ (k < 32) × (sized (length (now store)) q (processAt (now store) q) ≡ true) ⌝ }
+    requires { ⌜ (k < mostModules) × (sized (length (now store)) q (processAt (now store) q) ≡ true) ⌝ }
     requires { ⌜ Roomy (length (now store)) r ⌝ }
     requires { ⌜ (d ≤ 16) × (c < length (now store)) × (r .start ≤ to) × (to - r .start < 65536) ⌝ }
     ensures { λ x. ⌜ (x ≡ stepped 0 0 (resumed (now (table .entry)) k b q (processAt (now (store .entry)) q) r)) × (now (stack .exit) ≡ restored (now (store .entry)) (processAt (now (store .entry)) q .k) (processAt (now (store .entry)) q .s - 1 - processAt (now (store .entry)) q .k) (replicate 16 0)) × (now (store .exit) ≡ savedStore (r .g .0) (position (to - r .start)) c (held r (now (stack .entry)) (now (store .entry)) []) d) ⌝ }
@@ -219,7 +222,7 @@ fn change(
 // "a and c are addresses (32, a first); q = word a. If q = P, word c becomes P and no more."
 pub fn transfer(
     r: Core,
-    table: &[u16; 193],
+    table: &[u16; TABLE_WORDS],
     map: &[u32],
     stack: &mut [u16; 16],
     store: &mut [u16],
@@ -246,7 +249,7 @@ pub fn transfer(
         return take_two(r, stack, to);
     }
     let k = target(table, map, store, q);
-    if k == 32 {
+    if k == MOST_MODULES {
         return trapped(r, 35);
     }
     let d = r.depth;
@@ -257,7 +260,7 @@ pub fn transfer(
 // 2i + 1. Where that process is this one, only that word is written.
 pub fn take_line(
     r: Core,
-    table: &[u16; 193],
+    table: &[u16; TABLE_WORDS],
     map: &[u32],
     stack: &mut [u16; 16],
     store: &mut [u16],
@@ -280,7 +283,7 @@ pub fn take_line(
         };
     }
     let k = target(table, map, store, q);
-    if k == 32 {
+    if k == MOST_MODULES {
         return trapped(r, 35);
     }
     let d = r.depth;
@@ -289,21 +292,21 @@ pub fn take_line(
 }
 
 // The module of the process that catches a stop with this number: that of word 14, where the stop is a trap and the word is not 0 and not
-// P, which is p; 32 where none can.
-fn catcher(table: &[u16; 193], map: &[u32], store: &[u16], p: u16, number: u32) -> usize
+// P, which is p; MOST_MODULES where none can.
+fn catcher(table: &[u16; TABLE_WORDS], map: &[u32], store: &[u16], p: u16, number: u32) -> usize
     requires { ⌜ Mapped (now table) (now map) ⌝ }
     requires { ⌜ 32 ≤ length (now store) ⌝ }
     ensures { λ k. ⌜ k ≡ catcherIn (now (table .entry)) (now (map .entry)) (now (store .entry)) p number ⌝ }
 {
     if number < 32 {
-        return 32;
+        return MOST_MODULES;
     }
     let q = word_at(store, 14);
     if q == 0 {
-        return 32;
+        return MOST_MODULES;
     }
     if q == p {
-        return 32;
+        return MOST_MODULES;
     }
     target(table, map, store, q)
 }
@@ -311,13 +314,13 @@ fn catcher(table: &[u16; 193], map: &[u32], store: &[u16], p: u16, number: u32) 
 // The registers of the process at q, which is in module k, as they are before the number of the trap goes to word P + 6.
 fn resume_noted(
     r: Core,
-    table: &[u16; 193],
+    table: &[u16; TABLE_WORDS],
     store: &mut [u16],
     k: usize,
     q: u16,
     number: u16,
 ) -> Stepped
-    requires { ⌜ (k < 32) × (sized (length (now store)) q (processAt (now store) q) ≡ true) × (r .p .0 + 8 ≤ length (now store)) ⌝ }
+    requires { ⌜ (k < mostModules) × (sized (length (now store)) q (processAt (now store) q) ≡ true) × (r .p .0 + 8 ≤ length (now store)) ⌝ }
     ensures { λ x. ⌜ (x ≡ stepped 0 0 (resumed (now (table .entry)) k 1 q (processAt (now (store .entry)) q) r)) × (now (store .exit) ≡ set (now (store .entry)) (r .p .0 + 6) number) ⌝ }
 {
     let p = r.p.0 as usize;
@@ -331,7 +334,7 @@ fn resume_noted(
 // this one is saved. Where none catches it, it is the stop.
 pub fn catch_trap(
     r: Core,
-    table: &[u16; 193],
+    table: &[u16; TABLE_WORDS],
     map: &[u32],
     stack: &mut [u16; 16],
     store: &mut [u16],
@@ -345,7 +348,7 @@ pub fn catch_trap(
     ensures { λ x. ⌜ ((lent : Lent) (bytes words : List ℕ) → Lends bytes (now (table .entry)) (now (map .entry)) words lent → (j : Stop) → stopNumber j ≡ number → stopCode j ≡ code → (out : List ℕ) → result x (now (stack .exit)) (now (store .exit)) out ≡ leftBy (held r (now (stack .entry)) (now (store .entry)) out) (trapOf lent j (held r (now (stack .entry)) (now (store .entry)) out))) × Anchored (now (table .entry)) (x .core) ⌝ }
 {
     let k = catcher(table, map, store, r.p.0, number);
-    if k == 32 {
+    if k == MOST_MODULES {
         return Stepped {
             stop: number,
             code,

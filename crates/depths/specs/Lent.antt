@@ -5,7 +5,7 @@ use mathlib.Core.Path.{_≡_}
 use mathlib.Core.List.{List, [], _∷_}
 use lib.ListN.{length, getD}
 use Rattle.mcode.specs.Opcode.{lengths, takens, lefts}
-use Rattle.mcode.specs.Image.{moduleOf, procCount, resultsOf}
+use Rattle.mcode.specs.Image.{mostModules, moduleOf, procCount, resultsOf}
 use Rattle.mcode.specs.Depths.{Analysis, depths}
 use Rattle.mcode.specs.Layout.{Sound}
 use Rattle.mcode.specs.declared.Module.{Module}
@@ -31,15 +31,15 @@ depthsOf image count procs tables m = depths image (lightOf count procs tables) 
 
 -- the lists say what the program says
 pub record Copied (program : Program) (procs tables : List ℕ) : Type 0 where
-  pub long : length procs ≡ 32
-  pub wide : length tables ≡ 32
+  pub long : length procs ≡ mostModules
+  pub wide : length tables ≡ mostModules
   pub procs-are : (k : ℕ) → k < program .count → getD procs k 0 ≡ moduleOf program k .procs
   pub tables-are : (k : ℕ) → k < program .count → getD tables k 0 ≡ moduleOf program k .table
 
 -- the records lie in an image that was read
 pub record Placed (image : List ℕ) (count : ℕ) (procs tables : List ℕ) : Type 0 where
   pub brief : length image ≤ 65535
-  pub small : count ≤ 32
+  pub small : count ≤ mostModules
   pub same : length procs ≡ length tables
   pub near : (k : ℕ) → k < count → getD tables k 0 ≤ 65535
   pub results : (k : ℕ) → k < count → (i : ℕ) → i < procCount (light (getD procs k 0) (getD tables k 0)) → resultsOf image (light (getD procs k 0) (getD tables k 0)) i ≤ 4

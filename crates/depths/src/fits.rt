@@ -21,6 +21,7 @@ use marks::is_mark;
 use marks::passed_on;
 use marks::permitted;
 use mcode::Flow;
+use mcode::MOST_MODULES;
 use mcode::Module;
 use mcode::Program;
 ghost use mathlib.Core.Path.{_≡_};
@@ -91,8 +92,8 @@ fn position_fits(
     mark: u32,
     floor: u32,
     count: usize,
-    procs: &[u16; 32],
-    tables: &[usize; 32],
+    procs: &[u16; MOST_MODULES],
+    tables: &[usize; MOST_MODULES],
     m: Module,
     sizes: &[u8; 256],
     takes: &[u8; 256],
@@ -151,8 +152,8 @@ fn marks_fit(
     code: &[u8],
     map: &[u32],
     count: usize,
-    procs: &[u16; 32],
-    tables: &[usize; 32],
+    procs: &[u16; MOST_MODULES],
+    tables: &[usize; MOST_MODULES],
     m: Module,
     sizes: &[u8; 256],
     takes: &[u8; 256],
@@ -204,8 +205,8 @@ fn part_fits(
     image: &[u8],
     map: &[u32],
     count: usize,
-    procs: &[u16; 32],
-    tables: &[usize; 32],
+    procs: &[u16; MOST_MODULES],
+    tables: &[usize; MOST_MODULES],
     m: Module,
 ) -> bool
     requires { ⌜ Sound (now image) m × Placed (now image) count (now procs) (now tables) ⌝ }
@@ -258,8 +259,8 @@ fn module_fits(
     map: &[u32],
     at: usize,
     count: usize,
-    procs: &[u16; 32],
-    tables: &[usize; 32],
+    procs: &[u16; MOST_MODULES],
+    tables: &[usize; MOST_MODULES],
     m: Module,
 ) -> bool
     requires { ⌜ Sound (now image) m × Placed (now image) count (now procs) (now tables) ⌝ }

@@ -7,6 +7,7 @@ pub mod rules;
 
 use marks::UNMARKED;
 use mcode::Flow;
+use mcode::MOST_MODULES;
 use mcode::Module;
 ghost use mathlib.Core.Path.{_≡_};
 ghost use Prim.Native.Nat.{_+_, _≤_, _<_};
@@ -73,8 +74,8 @@ fn expand(
     h: usize,
     t: usize,
     count: usize,
-    procs: &[u16; 32],
-    tables: &[usize; 32],
+    procs: &[u16; MOST_MODULES],
+    tables: &[usize; MOST_MODULES],
     m: Module,
     sizes: &[u8; 256],
     takes: &[u8; 256],
@@ -136,8 +137,8 @@ fn enter(
     map: &mut [u32],
     work: &mut [u16],
     count: usize,
-    procs: &[u16; 32],
-    tables: &[usize; 32],
+    procs: &[u16; MOST_MODULES],
+    tables: &[usize; MOST_MODULES],
     m: Module,
 ) -> Visit
     requires { ⌜ Sound (now image) m ⌝ }
@@ -173,8 +174,8 @@ fn drain(
     work: &mut [u16],
     until: usize,
     count: usize,
-    procs: &[u16; 32],
-    tables: &[usize; 32],
+    procs: &[u16; MOST_MODULES],
+    tables: &[usize; MOST_MODULES],
     m: Module,
     sizes: &[u8; 256],
     takes: &[u8; 256],
@@ -237,8 +238,8 @@ pub fn find(
     map: &mut [u32],
     work: &mut [u16],
     count: usize,
-    procs: &[u16; 32],
-    tables: &[usize; 32],
+    procs: &[u16; MOST_MODULES],
+    tables: &[usize; MOST_MODULES],
     m: Module,
     sizes: &[u8; 256],
     takes: &[u8; 256],
@@ -277,8 +278,8 @@ pub fn check(
     map: &mut [u32],
     work: &mut [u16],
     count: usize,
-    procs: &[u16; 32],
-    tables: &[usize; 32],
+    procs: &[u16; MOST_MODULES],
+    tables: &[usize; MOST_MODULES],
     m: Module,
     sizes: &[u8; 256],
     takes: &[u8; 256],

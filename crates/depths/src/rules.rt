@@ -11,6 +11,7 @@ use marks::passed_on;
 use marks::permitted;
 use marks::store_mark;
 use mcode::Flow;
+use mcode::MOST_MODULES;
 use mcode::Module;
 ghost use mathlib.Core.Path.{_≡_};
 ghost use mathlib.Core.Bool.{true, false};
@@ -207,8 +208,8 @@ fn call_in(
     n: usize,
     e: u32,
     count: usize,
-    procs: &[u16; 32],
-    tables: &[usize; 32],
+    procs: &[u16; MOST_MODULES],
+    tables: &[usize; MOST_MODULES],
 ) -> Flow
     requires { ⌜ i < 65536 ⌝ }
     requires { ⌜ Placed (now image) count (now procs) (now tables) ⌝ }
@@ -283,8 +284,8 @@ pub fn onward_at(
     n: usize,
     e: u32,
     count: usize,
-    procs: &[u16; 32],
-    tables: &[usize; 32],
+    procs: &[u16; MOST_MODULES],
+    tables: &[usize; MOST_MODULES],
     m: Module,
 ) -> Flow
     requires { ⌜ (jumping op ≡ false) × (ending op ≡ false) × (plain op ≡ false) × Sound (now image) m ⌝ }
@@ -369,8 +370,8 @@ pub fn flow_at(
     p: usize,
     mark: u32,
     count: usize,
-    procs: &[u16; 32],
-    tables: &[usize; 32],
+    procs: &[u16; MOST_MODULES],
+    tables: &[usize; MOST_MODULES],
     m: Module,
     sizes: &[u8; 256],
     takes: &[u8; 256],

@@ -8,19 +8,19 @@ use native.Mathlib.Nat.{not-suc-le-zero}
 use native.Mathlib.Decide.{ℕ-discrete, decLt}
 use lib.ListN.{length, getD, set, replicate, length-set, getD-replicate}
 use lib.Seq.{getD-set-same, getD-set-other}
-use Rattle.mcode.specs.Image.{noModule, moduleOf}
+use Rattle.mcode.specs.Image.{mostModules, noModule, moduleOf}
 use Rattle.mcode.specs.Step.{written}
 use Rattle.mcode.specs.declared.Module.{Module}
 use Rattle.mcode.specs.declared.Program.{Program}
 use Rattle.mcode.proofs.Zeros.{length-written, written-out, written-in}
-use Rattle.actions.specs.Table.{moduleIn, Tabled}
+use Rattle.actions.specs.Table.{tableWords, moduleIn, Tabled}
 use Rattle.engine.specs.Numbers.{numbersOf, Narrow}
 
 module _ (m : Module) (k : ℕ) (t : List ℕ) where
   abbrev put : List ℕ
   put = written (numbersOf m) (6 * k + 1) t
 
-  pub put-same : k < 32 → length t ≡ 193 → moduleIn put k ≡ m
+  pub put-same : k < mostModules → length t ≡ tableWords → moduleIn put k ≡ m
   put-same h l =
       rw (
         at 0 (6 * k + 1) (omega arith) (omega arith),
@@ -59,15 +59,15 @@ module _ (m : Module) (k : ℕ) (t : List ℕ) where
 
 -- what the array holds when k modules are put into it
 pub record Holds (program : Program) (t : List ℕ) (k : ℕ) : Type 0 where
-  pub long : length t ≡ 193
+  pub long : length t ≡ tableWords
   pub count : getD t 0 0 ≡ program .count
   pub below : (j : ℕ) → j < k → moduleIn t j ≡ moduleOf program j
-  pub above : (j : ℕ) → k ≤ j → j < 32 → moduleIn t j ≡ noModule
+  pub above : (j : ℕ) → k ≤ j → j < mostModules → moduleIn t j ≡ noModule
 
-pub holds-none : (program : Program) (n : ℕ) → n ≡ program .count → Holds program (set (replicate 193 0) 0 n) 0
+pub holds-none : (program : Program) (n : ℕ) → n ≡ program .count → Holds program (set (replicate tableWords 0) 0 n) 0
 holds-none program n e = record {
-  long = length-set (replicate 193 0) 0 n;
-  count = getD-set-same (replicate 193 0) 0 n 0 (omega arith) ∙ e;
+  long = length-set (replicate tableWords 0) 0 n;
+  count = getD-set-same (replicate tableWords 0) 0 n 0 (omega arith) ∙ e;
   below = λ j h. absurd (not-suc-le-zero h);
   above = λ j h l. rw (
     zero-at (6 * j + 1) (omega arith) (omega arith),
@@ -79,10 +79,10 @@ holds-none program n e = record {
   );
 }
   where
-    zero-at : (i : ℕ) → 1 ≤ i → i < 193 → getD (set (replicate 193 0) 0 n) i 0 ≡ 0
-    zero-at i a b = getD-set-other (replicate 193 0) 0 i n 0 (λ z. omega arith) ∙ getD-replicate 193 i 0 0 b
+    zero-at : (i : ℕ) → 1 ≤ i → i < tableWords → getD (set (replicate tableWords 0) 0 n) i 0 ≡ 0
+    zero-at i a b = getD-set-other (replicate tableWords 0) 0 i n 0 (λ z. omega arith) ∙ getD-replicate tableWords i 0 0 b
 
-pub holds-more : (program : Program) (t : List ℕ) (k : ℕ) → k < 32 → Holds program t k → Holds program (written (numbersOf (moduleOf program k)) (6 * k + 1) t) (k + 1)
+pub holds-more : (program : Program) (t : List ℕ) (k : ℕ) → k < mostModules → Holds program t k → Holds program (written (numbersOf (moduleOf program k)) (6 * k + 1) t) (k + 1)
 holds-more program t k h H = record {
   long = length-written (numbersOf (moduleOf program k)) (6 * k + 1) t ∙ H .long;
   count = put-count (moduleOf program k) k t ∙ H .count;
@@ -102,6 +102,6 @@ tabled-so program t k h N H = record {
   modules = λ j l. go j l (decLt j k);
 }
   where
-    go : (j : ℕ) → j < 32 → Dec (j < k) → moduleOf program j ≡ moduleIn t j
+    go : (j : ℕ) → j < mostModules → Dec (j < k) → moduleOf program j ≡ moduleIn t j
     go j l (yes b) = sym (H .below j b)
     go j l (no b) = N .blank j (omega (arith, b)) ∙ sym (H .above j (omega (arith, b)) l)

@@ -10,7 +10,7 @@ use lib.ListN.{length, getD}
 use lib.Bits.{bitOr}
 use borrow.Author.Tests.{le-leb, lt-leb, eq-eqb, ne-eqb}
 use Rattle.mcode.specs.Opcode.{lengths}
-use Rattle.mcode.specs.Image.{parse}
+use Rattle.mcode.specs.Image.{mostModules, parse}
 use Rattle.mcode.specs.Machine.{State, Live, go, machine, isMachine, stopNumber, stopCode}
 use Rattle.mcode.specs.Step.{Lent, instructionOf, readOf}
 use Rattle.mcode.specs.Run.{RunEnd, Tally, tally, tallied, after, runN, lentTo, instructionTally, stepTally, refused, stopped as ended, runRefusal, runOf}
@@ -201,8 +201,8 @@ module _ (image table map inputs : List ℕ) where
       pub stands-still : (q .stop ≡ 0 → ⊥) → Ready image table map (length so) (length ou) (length inputs) (q .core) st
       stands-still s = still (stop-same lent (held r stack store outputs) (result q st so ou) (left - 1) e s) a (G .ready)
 
--- a machine's module is one of 32
-pub loaded-few : (image table map : List ℕ) (w : ℕ) → Prepared image table map w → (m : Machine) → isMachine (parse image .program) map w m ≡ true → m .registers .unit < 32
+-- a machine's module is one of the table
+pub loaded-few : (image table map : List ℕ) (w : ℕ) → Prepared image table map w → (m : Machine) → isMachine (parse image .program) map w m ≡ true → m .registers .unit < mostModules
 loaded-few image table map w P m g = omega (arith, good-of (parse image .program) map w m g .at .loaded, P .told .small)
 
 -- what run has tested, with the registers of the machine

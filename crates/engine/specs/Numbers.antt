@@ -3,7 +3,7 @@ use mathlib.Core.Path.{_≡_}
 use Prim.Native.Nat.{ℕ, _≤_, _<_}
 use mathlib.Core.List.{List, [], _∷_}
 use lib.ListN.{length}
-use Rattle.mcode.specs.Image.{noModule, moduleOf}
+use Rattle.mcode.specs.Image.{mostModules, noModule, moduleOf}
 use Rattle.mcode.specs.declared.Module.{Module}
 use Rattle.mcode.specs.declared.Program.{Program}
 
@@ -17,6 +17,6 @@ pub record Words (m : Module) : Type 0 where
   pub table : m .table ≤ 65535
 
 pub record Narrow (program : Program) : Type 0 where
-  pub few : program .count ≤ 32
+  pub few : program .count ≤ mostModules
   pub words : (k : ℕ) → k < program .count → Words (moduleOf program k)
   pub blank : (k : ℕ) → program .count ≤ k → moduleOf program k ≡ noModule

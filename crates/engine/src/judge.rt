@@ -1,5 +1,6 @@
 // Run's refusals, in their order: 1 to 6, 7, 12, 9, 10, 11.
 use crate::table::table_of;
+use actions::TABLE_WORDS;
 use loader::start::store_fits;
 use mcode::Machine;
 use mcode::Registers;
@@ -13,7 +14,7 @@ ghost use Rattle.engine.specs.Judged.{zerosAbove, framedIn, machineIn, J
 // What run makes of its arguments: the number of the refusal, or 0 and the program's numbers.
 pub struct Judged {
     pub refusal: u16,
-    pub table: [u16; 193],
+    pub table: [u16; TABLE_WORDS],
 }
 
 // "Zeros above its depth."
@@ -47,7 +48,7 @@ fn is_framed(registers: Registers, w: usize) -> bool
 }
 
 // "A machine has a loaded module, a position marked with its depth, S <= H, H + 24 <= W, P + 8 <= W, and zeros above its depth."
-fn is_machine(machine: Machine, table: &[u16; 193], map: &[u32], w: usize) -> bool
+fn is_machine(machine: Machine, table: &[u16; TABLE_WORDS], map: &[u32], w: usize) -> bool
     requires { ⌜ Mapped (now table) (now map) ⌝ }
     ensures { λ r. ⌜ r ≡ machineIn (now (table .entry)) (now (map .entry)) w machine ⌝ }
 {
@@ -73,7 +74,7 @@ fn refused(number: u16) -> Judged
 {
     Judged {
         refusal: number,
-        table: [0u16; 193],
+        table: [0u16; TABLE_WORDS],
     }
 }
 

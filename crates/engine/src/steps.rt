@@ -2,6 +2,7 @@
 // traps.
 use crate::stops::stop_of;
 use actions::Core;
+use actions::TABLE_WORDS;
 use control::lines::line_of;
 use control::lines::without;
 use control::transfer::catch_trap;
@@ -34,7 +35,7 @@ struct Halted {
 fn instructions(
     first: Core,
     image: &[u8],
-    table: &[u16; 193],
+    table: &[u16; TABLE_WORDS],
     map: &[u32],
     stack: &mut [u16; 16],
     store: &mut [u16],
@@ -93,7 +94,7 @@ struct Advanced {
 fn by_line(
     r: Core,
     image: &[u8],
-    table: &[u16; 193],
+    table: &[u16; TABLE_WORDS],
     map: &[u32],
     stack: &mut [u16; 16],
     store: &mut [u16],
@@ -145,7 +146,7 @@ fn stretch(left: u32, requests: u16) -> u32
 fn by_instructions(
     r: Core,
     image: &[u8],
-    table: &[u16; 193],
+    table: &[u16; TABLE_WORDS],
     map: &[u32],
     stack: &mut [u16; 16],
     store: &mut [u16],
@@ -198,7 +199,7 @@ fn by_instructions(
 fn advance(
     r: Core,
     image: &[u8],
-    table: &[u16; 193],
+    table: &[u16; TABLE_WORDS],
     map: &[u32],
     stack: &mut [u16; 16],
     store: &mut [u16],
@@ -248,7 +249,7 @@ fn advance(
 fn attempts(
     first: Core,
     image: &[u8],
-    table: &[u16; 193],
+    table: &[u16; TABLE_WORDS],
     map: &[u32],
     stack: &mut [u16; 16],
     store: &mut [u16],
@@ -310,7 +311,7 @@ pub struct Stopping {
 pub fn steps(
     machine: Machine,
     image: &[u8],
-    table: &[u16; 193],
+    table: &[u16; TABLE_WORDS],
     map: &[u32],
     store: &mut [u16],
     inputs: &[u16],

@@ -7,7 +7,7 @@ use Prim.Native.Nat.{ℕ, _≤_, _<_, _+_, _-_}
 use lib.ListN.{getD, length}
 use native.Mathlib.Omega.{arith}
 use Rattle.mcode.specs.Opcode.{lengths, takens, lefts}
-use Rattle.mcode.specs.Image.{parse, moduleOf, codeByte}
+use Rattle.mcode.specs.Image.{mostModules, parse, moduleOf, codeByte}
 use Rattle.mcode.specs.Depths.{permits, entry, markAt, marksOf}
 use Rattle.mcode.specs.Machine.{isMachine, machine}
 use Rattle.mcode.specs.Demands.{OperandsExist, Operands}
@@ -27,7 +27,7 @@ module _ (image table map : List ℕ) (w : ℕ) (P : Prepared image table map w)
   abbrev program : Program
   program = parse image .program
 
-  few : countIn table ≤ 32
+  few : countIn table ≤ mostModules
   few = omega (arith, P .tabled .count, P .tabled .few)
 
   loaded : (k : ℕ) → k < countIn table → k < program .count

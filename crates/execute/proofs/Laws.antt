@@ -12,7 +12,7 @@ use Rattle.mcode.proofs.Tests.{all-at, and-both}
 use Rattle.mcode.specs.Word.{pick, and, or, allBelow}
 use Rattle.mcode.specs.Opcode.{lengths, takens, lefts}
 use Rattle.mcode.specs.Depths.{namesModule}
-use Rattle.mcode.specs.Image.{procCount}
+use Rattle.mcode.specs.Image.{mostModules, procCount}
 use Rattle.mcode.specs.Step.{Lent, instructionOf, readOf}
 use Rattle.actions.specs.declared.Core.{Core}
 use Rattle.actions.specs.Core.{instruction, performed, spentOp, leftBy, held, readAt, unites, operandAt}
@@ -84,7 +84,7 @@ module _ {image table map : List ℕ} {w op : ℕ} {r : Core} (a : Asks image ta
       rw (t, f) at (a .controls .ready)
 
   -- a module operand is a module of the table
-  pub within : namesModule op ≡ true → operandAt image r 1 < 32
+  pub within : namesModule op ≡ true → operandAt image r 1 < mostModules
   within e = omega (arith, a .named e, a .controls .entered .few)
 
   pub stacked : Stacked op r

@@ -8,7 +8,7 @@ use lib.ListN.{getD, length}
 use native.Mathlib.Omega.{arith}
 use borrow.Author.Tests.{ne-eqb}
 use Rattle.mcode.specs.Opcode.{lengths}
-use Rattle.mcode.specs.Image.{parse}
+use Rattle.mcode.specs.Image.{mostModules, parse}
 use Rattle.mcode.specs.Machine.{State, state, Outcome, go, halt, handled, stopNumber, isMachine, machine}
 use Rattle.mcode.specs.Step.{Lent, instructionOf, trapped, quietOf, readOf, completed, quietRead}
 use Rattle.mcode.specs.Run.{lentTo}
@@ -31,7 +31,7 @@ pub lends : {image table map : List ℕ} {w : ℕ} (inputs : List ℕ) → Prepa
 lends inputs P = record { image = refl; tabled = P .tabled; map = refl; inputs = refl }
 
 module _ {image table map : List ℕ} {w : ℕ} (P : Prepared image table map w) (m : Machine) (good : isMachine (parse image .program) map w m ≡ true) where
-  pub unit-few : m .registers .unit < 32
+  pub unit-few : m .registers .unit < mostModules
   unit-few = omega (arith, good-of (parse image .program) map w m good .at .loaded, P .told .small)
 
   pub pc-near : m .registers .pc .0 ≤ 32767

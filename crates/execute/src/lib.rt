@@ -1,6 +1,7 @@
 // One instruction: every row of opcodes in its place, a turn of the stepping loop, and the step of a whole machine.
 use actions::Core;
 use actions::Stepped;
+use actions::TABLE_WORDS;
 use control::rows::row14;
 use control::rows::row15;
 use rows_high::channels::row10;
@@ -36,7 +37,7 @@ fn perform(
     op: u8,
     r: Core,
     image: &[u8],
-    table: &[u16; 193],
+    table: &[u16; TABLE_WORDS],
     map: &[u32],
     stack: &mut [u16; 16],
     store: &mut [u16],
@@ -90,7 +91,7 @@ pub fn turn(
     left: u64,
     r: Core,
     image: &[u8],
-    table: &[u16; 193],
+    table: &[u16; TABLE_WORDS],
     map: &[u32],
     stack: &mut [u16; 16],
     store: &mut [u16],

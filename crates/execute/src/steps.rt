@@ -3,6 +3,7 @@
 use crate::turn;
 use actions::Core;
 use actions::Stepped;
+use actions::TABLE_WORDS;
 use control::table::number;
 use control::transfer::catch_trap;
 use mcode::Address;
@@ -14,7 +15,7 @@ ghost use mathlib.Core.Bool.{true};
 ghost use mathlib.Core.List.{List};
 ghost use Prim.Native.Nat.{ℕ, _-_, _≤_, _<_};
 ghost use lib.ListN.{length};
-ghost use Rattle.mcode.specs.Image.{parse};
+ghost use Rattle.mcode.specs.Image.{mostModules, parse};
 ghost use Rattle.mcode.specs.Machine as M;
 ghost use Rattle.mcode.specs.Machine.{State, isMachine, state, Outcome, handled};
 ghost use Rattle.mcode.specs.Step.{Lent, trapped, quietOf, quietRead};
@@ -35,8 +36,8 @@ pub struct Next {
 }
 
 // The registers with the numbers of their module.
-pub fn core_of(registers: Registers, table: &[u16; 193]) -> Core
-    requires { ⌜ registers .unit < 32 ⌝ }
+pub fn core_of(registers: Registers, table: &[u16; TABLE_WORDS]) -> Core
+    requires { ⌜ registers .unit < mostModules ⌝ }
     ensures { λ q. ⌜ (shown q ≡ registers) × Anchored (now (table .entry)) q ⌝ }
 {
     let k = registers.unit as usize;
@@ -68,7 +69,7 @@ pub fn core_of(registers: Registers, table: &[u16; 193]) -> Core
 
 // The machine of these registers.
 pub fn machine_of(r: Core, stack: [u16; 16]) -> Machine
-    requires { ⌜ (r .unit < 32) × (r .start ≤ r .pc) × (r .pc - r .start ≤ 32767) ⌝ }
+    requires { ⌜ (r .unit < mostModules) × (r .start ≤ r .pc) × (r .pc - r .start ≤ 32767) ⌝ }
     ensures { λ q. ⌜ q ≡ M.machine (shown r) stack ⌝ }
 {
     let unit = r.unit as u8;
@@ -96,7 +97,7 @@ pub fn machine_of(r: Core, stack: [u16; 16]) -> Machine
 // What an instruction answered, or what its trap does.
 fn settle(
     s: Stepped,
-    table: &[u16; 193],
+    table: &[u16; TABLE_WORDS],
     map: &[u32],
     stack: &mut [u16; 16],
     store: &mut [u16],
@@ -118,7 +119,7 @@ fn settle(
 pub fn step(
     machine: Machine,
     image: &[u8],
-    table: &[u16; 193],
+    table: &[u16; TABLE_WORDS],
     map: &[u32],
     store: &mut [u16],
     inputs: &[u16],

@@ -13,6 +13,7 @@ use marks::UNMARKED;
 use marks::depth_of;
 use marks::is_mark;
 use mcode::Flow;
+use mcode::MOST_MODULES;
 use mcode::Module;
 use mcode::Program;
 ghost use mathlib.Core.Path.{_≡_};
@@ -90,8 +91,8 @@ fn params_at(
     b: u8,
     c: u8,
     count: usize,
-    procs: &[u16; 32],
-    tables: &[usize; 32],
+    procs: &[u16; MOST_MODULES],
+    tables: &[usize; MOST_MODULES],
     m: Module,
 ) -> u8
     requires { ⌜ Sound (now image) m × Placed (now image) count (now procs) (now tables) ⌝ }
@@ -122,8 +123,8 @@ fn forbidden(
     p: usize,
     mark: u32,
     count: usize,
-    procs: &[u16; 32],
-    tables: &[usize; 32],
+    procs: &[u16; MOST_MODULES],
+    tables: &[usize; MOST_MODULES],
     m: Module,
 ) -> Why
     requires { ⌜ Sound (now image) m × Placed (now image) count (now procs) (now tables) ⌝ }
@@ -151,8 +152,8 @@ fn followed(
     p: usize,
     mark: u32,
     count: usize,
-    procs: &[u16; 32],
-    tables: &[usize; 32],
+    procs: &[u16; MOST_MODULES],
+    tables: &[usize; MOST_MODULES],
     m: Module,
     sizes: &[u8; 256],
     takes: &[u8; 256],
@@ -197,8 +198,8 @@ fn lowest(
     map: &[u32],
     k: u8,
     count: usize,
-    procs: &[u16; 32],
-    tables: &[usize; 32],
+    procs: &[u16; MOST_MODULES],
+    tables: &[usize; MOST_MODULES],
     m: Module,
     sizes: &[u8; 256],
     takes: &[u8; 256],
@@ -240,8 +241,8 @@ fn module_misfit(
     work: &mut [u16],
     k: u8,
     count: usize,
-    procs: &[u16; 32],
-    tables: &[usize; 32],
+    procs: &[u16; MOST_MODULES],
+    tables: &[usize; MOST_MODULES],
     m: Module,
     sizes: &[u8; 256],
     takes: &[u8; 256],

@@ -2,6 +2,7 @@
 // and what is wrong with it.
 use marks::UNMARKED;
 use mcode::Cause;
+use mcode::MOST_MODULES;
 use mcode::Module;
 use mcode::Program;
 use walk::causes::cause_at;
@@ -61,7 +62,7 @@ fn note_at(
     notes: &mut [u32],
     p: usize,
     count: usize,
-    procs: &[u16; 32],
+    procs: &[u16; MOST_MODULES],
     m: Module,
     sizes: &[u8; 256],
     kinds: &[u8; 256],
@@ -86,7 +87,7 @@ fn note_all(
     map: &mut [u32],
     notes: &mut [u32],
     count: usize,
-    procs: &[u16; 32],
+    procs: &[u16; MOST_MODULES],
     m: Module,
     sizes: &[u8; 256],
     kinds: &[u8; 256],

@@ -1,6 +1,7 @@
 // Reads an image: bytes to a table of modules, or the refusal of the first part that is missing (3) or out of range (5, 6).
 // Each function reads one part, in the order in which the paper lists them, and answers as its namesake of mcode's specs/Image.antt.
 use mcode::Head;
+use mcode::MOST_MODULES;
 use mcode::Machine;
 use mcode::Module;
 use mcode::Parsed;
@@ -9,7 +10,7 @@ use mcode::Program;
 ghost use mathlib.Core.Path.{_≡_};
 ghost use Prim.Native.Nat.{_≤_};
 ghost use lib.ListN.{length, replicate};
-ghost use Rattle.mcode.specs.Image.{firstModule, byteAt, wordAt, skipAt, bitsAt, dataAt, countAt, nameAt, lengthAt, limitedAt, recordAt, recordsAt, firstLimit, bodyAt, moduleAt, noModule, refusedBy, modulesFrom, parse};
+ghost use Rattle.mcode.specs.Image.{firstModule, mostModules, byteAt, wordAt, skipAt, bitsAt, dataAt, countAt, nameAt, lengthAt, limitedAt, recordAt, recordsAt, firstLimit, bodyAt, moduleAt, noModule, refusedBy, modulesFrom, parse};
 
 // A byte, and the position after it.
 fn read_byte(s: &[u8], at: usize) -> Part
@@ -253,7 +254,7 @@ fn refused(k: u16) -> Parsed
     ensures { λ r. ⌜ r ≡ refusedBy k ⌝ }
 {
     let none = no_module();
-    let modules = [none; 32];
+    let modules = [none; MOST_MODULES];
     Parsed {
         refusal: k,
         program: Program {
@@ -266,11 +267,11 @@ fn refused(k: u16) -> Parsed
 
 // The modules, one behind another, and nothing after the last.
 fn read_modules(s: &[u8], count: usize) -> Parsed
-    requires { ⌜ (count ≤ 32) × (length (now s) ≤ 65535) ⌝ }
-    ensures { λ r. ⌜ r ≡ modulesFrom (now (s .entry)) count 0 1 firstModule (replicate 32 noModule) ⌝ }
+    requires { ⌜ (count ≤ mostModules) × (length (now s) ≤ 65535) ⌝ }
+    ensures { λ r. ⌜ r ≡ modulesFrom (now (s .entry)) count 0 1 firstModule (replicate mostModules noModule) ⌝ }
 {
     let none = no_module();
-    let mut table = [none; 32];
+    let mut table = [none; MOST_MODULES];
     let mut at: usize = 1;
     let mut base: usize = Machine::FIRST_MODULE;
     let mut i: usize = 0;
@@ -314,7 +315,7 @@ pub fn read_image(s: &[u8]) -> Parsed
     if n == 0 {
         return refused(2);
     }
-    if 32 < n {
+    if MOST_MODULES < n {
         return refused(2);
     }
     read_modules(s, n)

@@ -2,6 +2,7 @@
 // program gives 0": no line is requested.
 use crate::step::Halt;
 use crate::step::step_in_place;
+use actions::TABLE_WORDS;
 use engine::judge::judge;
 use engine::run::Ran;
 use engine::stops::stop_of;
@@ -27,7 +28,7 @@ struct Halted {
 fn steps_in_place(
     machine: Machine,
     image: &[u8],
-    table: &[u16; 193],
+    table: &[u16; TABLE_WORDS],
     map: &[u32],
     store: &mut [u16],
     inputs: &[u16],

@@ -1,5 +1,6 @@
 // The step of a machine in place: a thin wrapper over the step by value. The desk gives no requests, so that every step is an instruction's
 // or its trap's.
+use actions::TABLE_WORDS;
 use mcode::Machine;
 ghost use mathlib.Core.Path.{_≡_};
 ghost use mathlib.Core.Bool.{true};
@@ -23,7 +24,7 @@ pub struct Halt {
 pub fn step_in_place(
     machine: &mut Machine,
     image: &[u8],
-    table: &[u16; 193],
+    table: &[u16; TABLE_WORDS],
     map: &[u32],
     store: &mut [u16],
     inputs: &[u16],

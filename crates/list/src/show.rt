@@ -15,6 +15,7 @@ use listing::block::text;
 use listing::print::named;
 use listing::procedure::Procedure;
 use listing::procedure::procedure_of;
+use mcode::MOST_MODULES;
 use mcode::Module;
 use mcode::Program;
 ghost use mathlib.Core.Path.{_≡_};
@@ -155,7 +156,7 @@ fn put_modules(
     why: Why,
 ) {
     let mut k = 0usize;
-    while k < 32 {
+    while k < MOST_MODULES {
         if program.count <= k {
             return;
         }

@@ -6,7 +6,7 @@ use native.Mathlib.Omega.{arith}
 use native.Mathlib.Numerals.{add-one}
 use lib.ListN.{length, getD, set, take, drop, length-take, length-map, length-drop, List·getD-map}
 use lib.Seq.{drop-cons, getD-take, length-take-le}
-use Rattle.mcode.specs.Image.{basesOf, moduleOf, noModule}
+use Rattle.mcode.specs.Image.{mostModules, basesOf, moduleOf, noModule}
 use Rattle.mcode.specs.Step.{written}
 use Rattle.mcode.specs.declared.Module.{Module}
 use Rattle.mcode.specs.declared.Program.{Program}
@@ -30,7 +30,7 @@ none-written xs a k store h = rw (nothing (drop k xs) (simp length-drop (omega a
 module _ (program : Program) (w : ℕ) (R : Roomy program w) where
   pub bases-long : length (take (program .count) (basesOf program)) ≡ program .count
   bases-long =
-      let l : length (basesOf program) ≡ 32 = length-map (program .modules) (λ (m : Module). m .base) ∙ R .table in
+      let l : length (basesOf program) ≡ mostModules = length-map (program .modules) (λ (m : Module). m .base) ∙ R .table in
       length-take-le (program .count) (basesOf program) (omega (arith, l, R .few))
 
   pub base-at : (k : ℕ) → k < program .count → getD (take (program .count) (basesOf program)) k 0 ≡ moduleOf program k .base

@@ -3,7 +3,7 @@ use mathlib.Core.Path.{_≡_}
 use Prim.Native.Nat.{ℕ, _+_, _-_, _≤_, _<_}
 use mathlib.Core.List.{List}
 use lib.ListN.{length}
-use Rattle.mcode.specs.Image.{baseCopy, margin, moduleOf}
+use Rattle.mcode.specs.Image.{mostModules, baseCopy, margin, moduleOf}
 use Rattle.mcode.specs.Machine.{address, position}
 use Rattle.mcode.specs.Run as Run
 use Rattle.mcode.specs.declared.Registers.{Registers}
@@ -15,8 +15,8 @@ begun r store = record { number = r .number; machine = r .machine; store = store
 
 -- the copies of the bases lie in a store of w words, and the bases are words
 pub record Roomy (program : Program) (w : ℕ) : Type 0 where
-  pub table : length (program .modules) ≡ 32
-  pub few : program .count ≤ 32
+  pub table : length (program .modules) ≡ mostModules
+  pub few : program .count ≤ mostModules
   pub fit : baseCopy + program .count ≤ w
   pub words : (k : ℕ) → k < program .count → moduleOf program k .base ≤ 65535
 

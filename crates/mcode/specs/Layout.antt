@@ -5,7 +5,7 @@ use mathlib.Core.Path.{_≡_}
 use mathlib.Core.List.{List}
 use lib.ListN.{length, getD}
 use Rattle.mcode.specs.Word.{byte}
-use Rattle.mcode.specs.Image.{firstModule, noModule, parse, moduleOf, procCount, entryOf, paramsOf, resultsOf}
+use Rattle.mcode.specs.Image.{firstModule, mostModules, noModule, parse, moduleOf, procCount, entryOf, paramsOf, resultsOf}
 use Rattle.mcode.specs.declared.Module.{Module}
 use Rattle.mcode.specs.declared.Program.{Program}
 
@@ -38,8 +38,8 @@ pub record Laid (image : List ℕ) (table : List Module) (i at base : ℕ) : Typ
 pub record Told (image : List ℕ) (program : Program) : Type 0 where
   pub brief : length image ≤ 65535
   pub some : 1 ≤ program .count
-  pub small : program .count ≤ 32
-  pub table : length (program .modules) ≡ 32
+  pub small : program .count ≤ mostModules
+  pub table : length (program .modules) ≡ mostModules
   pub blank : (k : ℕ) → program .count ≤ k → moduleOf program k ≡ noModule
   pub high : firstModule ≤ program .end
   pub bare : paramsOf image (moduleOf program 0) 0 ≡ 0

@@ -139,11 +139,14 @@ pub struct Module {
     pub table: usize,
 }
 
+// The most modules that an image has.
+pub const MOST_MODULES: usize = 21;
+
 // The modules of an image, and the word after the last one's data.
 pub struct Program {
     pub count: usize,
     pub end: usize,
-    pub modules: [Module; 32],
+    pub modules: [Module; MOST_MODULES],
 }
 
 // What reading one part of an image finds: its value and the next position, or a refusal.

@@ -1,6 +1,7 @@
 // Channels, unsigned checks and comparisons, and the transfer to another process.
 use actions::Core;
 use actions::Stepped;
+use actions::TABLE_WORDS;
 use actions::channels::read;
 use actions::channels::write;
 use actions::compute::three;
@@ -39,7 +40,7 @@ pub fn row10(
     op: u8,
     r: Core,
     image: &[u8],
-    table: &[u16; 193],
+    table: &[u16; TABLE_WORDS],
     map: &[u32],
     stack: &mut [u16; 16],
     store: &mut [u16],

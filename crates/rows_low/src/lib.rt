@@ -1,6 +1,7 @@
 // The first eight rows of sixteen opcodes: constants, jumps, and the loads and stores of words.
 use actions::Core;
 use actions::Stepped;
+use actions::TABLE_WORDS;
 use actions::compute::add_top;
 use actions::compute::put_word;
 use actions::jumps::and_forward;
@@ -29,7 +30,7 @@ ghost use mathlib.Core.Bool.{true};
 ghost use mathlib.Core.List.{List};
 ghost use Prim.Native.Nat.{ℕ, _≤_, _<_, _/_};
 ghost use lib.ListN.{length};
-ghost use Rattle.mcode.specs.Image.{basesOf};
+ghost use Rattle.mcode.specs.Image.{mostModules, basesOf};
 ghost use Rattle.mcode.specs.Depths.{namesModule};
 ghost use Rattle.mcode.specs.Step.{Lent};
 ghost use Rattle.actions.specs.Core.{result, instruction, operandAt, Stays};
@@ -65,10 +66,16 @@ fn operands(op: u8, r: Core, image: &[u8], stack: &mut [u16; 16]) -> Stepped
 
 // 020, 022 and 023 put an operand, 024 to 027 a sum; 030 to 037 jump. The operands are tested before the match, which is a second
 // jump table: they are common, and long programs mispredict such a jump.
-pub fn row1(op: u8, r: Core, image: &[u8], table: &[u16; 193], stack: &mut [u16; 16]) -> Stepped
+pub fn row1(
+    op: u8,
+    r: Core,
+    image: &[u8],
+    table: &[u16; TABLE_WORDS],
+    stack: &mut [u16; 16],
+) -> Stepped
     requires { ⌜ op / 16 ≡ 1 ⌝ }
     requires { ⌜ Ready op r (length (now image)) ⌝ }
-    requires { ⌜ (namesModule op ≡ true → operandAt (now image) r 1 < 32) ⌝ }
+    requires { ⌜ (namesModule op ≡ true → operandAt (now image) r 1 < mostModules) ⌝ }
     ensures { λ q. ⌜ ((lent : Lent) → Based (now (table .entry)) r (basesOf (lent .program)) → (store out : List ℕ) → result q (now (stack .exit)) store out ≡ instruction lent op (operandAt (now (image .entry)) r) r (now (stack .entry)) store out) × Stays r (q .core) ⌝ }
 {
     if op < 0o24 {
@@ -102,13 +109,13 @@ pub fn row2(
     op: u8,
     r: Core,
     image: &[u8],
-    table: &[u16; 193],
+    table: &[u16; TABLE_WORDS],
     stack: &mut [u16; 16],
     store: &[u16],
 ) -> Stepped
     requires { ⌜ op / 16 ≡ 2 ⌝ }
     requires { ⌜ Ready op r (length (now image)) ⌝ }
-    requires { ⌜ (namesModule op ≡ true → operandAt (now image) r 1 < 32) ⌝ }
+    requires { ⌜ (namesModule op ≡ true → operandAt (now image) r 1 < mostModules) ⌝ }
     requires { ⌜ length (now store) ≤ 65535 ⌝ }
     ensures { λ q. ⌜ ((lent : Lent) → Based (now (table .entry)) r (basesOf (lent .program)) → (out : List ℕ) → result q (now (stack .exit)) (now (store .entry)) out ≡ instruction lent op (operandAt (now (image .entry)) r) r (now (stack .entry)) (now (store .entry)) out) × Stays r (q .core) ⌝ }
 {
@@ -140,13 +147,13 @@ pub fn row3(
     op: u8,
     r: Core,
     image: &[u8],
-    table: &[u16; 193],
+    table: &[u16; TABLE_WORDS],
     stack: &mut [u16; 16],
     store: &mut [u16],
 ) -> Stepped
     requires { ⌜ op / 16 ≡ 3 ⌝ }
     requires { ⌜ Ready op r (length (now image)) ⌝ }
-    requires { ⌜ (namesModule op ≡ true → operandAt (now image) r 1 < 32) ⌝ }
+    requires { ⌜ (namesModule op ≡ true → operandAt (now image) r 1 < mostModules) ⌝ }
     requires { ⌜ length (now store) ≤ 65535 ⌝ }
     ensures { λ q. ⌜ ((lent : Lent) → Based (now (table .entry)) r (basesOf (lent .program)) → (out : List ℕ) → result q (now (stack .exit)) (now (store .exit)) out ≡ instruction lent op (operandAt (now (image .entry)) r) r (now (stack .entry)) (now (store .entry)) out) × Stays r (q .core) ⌝ }
 {

@@ -11,6 +11,7 @@ use listing::bytes::byte_from;
 use listing::bytes::word_at;
 use listing::print::first;
 use listing::print::named;
+use mcode::MOST_MODULES;
 use mcode::Machine;
 use mcode::Program;
 use mcode::Registers;
@@ -23,7 +24,7 @@ ghost use Rattle.mcode.specs.Word.{pick};
 // The opcode where the registers stand.
 pub fn opcode_at(image: &[u8], program: Program, registers: Registers) -> u8 {
     let unit = registers.unit as usize;
-    if unit < 32 {
+    if unit < MOST_MODULES {
         let m = program.modules[unit];
         return byte_from(image, m.code, registers.pc.0 as usize);
     }

@@ -15,6 +15,7 @@ use listing::print::named;
 use listing::print::number;
 use listing::print::right;
 use listing::search::changed;
+use mcode::MOST_MODULES;
 use mcode::Machine;
 use mcode::Program;
 use mcode::Registers;
@@ -121,7 +122,7 @@ fn put_instruction(
     registers: Registers,
 ) {
     let unit = registers.unit as usize;
-    if unit < 32 {
+    if unit < MOST_MODULES {
         let m = program.modules[unit];
         let i = instruction_at(image, m, registers.pc.0);
         let columns = instruction(out, used, i);

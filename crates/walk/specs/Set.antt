@@ -5,6 +5,7 @@ use mathlib.Core.Logic.{_⊎_}
 use mathlib.Core.Bool.{true, false}
 use mathlib.Core.List.{List}
 use lib.ListN.{length, getD, set}
+use Rattle.mcode.specs.Image.{mostModules}
 use Rattle.mcode.specs.Depths.{unmarked}
 use Rattle.mcode.specs.Opcode.{lengths}
 use Rattle.mcode.specs.Layout.{Sound}
@@ -35,7 +36,7 @@ counted count procs = lightOf count procs procs
 -- what the scan of module m is lent
 pub record Known (image : List ℕ) (count : ℕ) (procs : List ℕ) (m : Module) (sizes lent : List ℕ) : Type 0 where
   pub sound : Sound image m
-  pub few : count ≤ 32
+  pub few : count ≤ mostModules
   pub sizes-are : sizes ≡ lengths
   pub kinds-are : lent ≡ kinds
 

@@ -10,18 +10,19 @@ use depths::rules::proc_count;
 use depths::rules::wide;
 use mcode::Cause;
 use mcode::Flow;
+use mcode::MOST_MODULES;
 use mcode::Module;
 ghost use mathlib.Core.Path.{_≡_};
 ghost use Prim.Native.Nat.{_≤_, _<_};
 ghost use lib.Dec.{ltb};
 ghost use Rattle.mcode.specs.Word.{and};
-ghost use Rattle.mcode.specs.Image.{moduleOf, procCount};
+ghost use Rattle.mcode.specs.Image.{mostModules, moduleOf, procCount};
 ghost use Rattle.mcode.specs.Walk.{named, staysIn, causeAt, wholeAt};
 ghost use Rattle.walk.specs.Set.{counted, Known};
 
 // Whether module k has a procedure i.
-fn has_procedure(k: usize, i: usize, count: usize, procs: &[u16; 32]) -> bool
-    requires { ⌜ count ≤ 32 ⌝ }
+fn has_procedure(k: usize, i: usize, count: usize, procs: &[u16; MOST_MODULES]) -> bool
+    requires { ⌜ count ≤ mostModules ⌝ }
     ensures { λ r. ⌜ r ≡ and (ltb k count) (ltb i (procCount (moduleOf (counted count (now (procs .entry))) k))) ⌝ }
 {
     if k < count {
@@ -39,8 +40,8 @@ fn has_procedure(k: usize, i: usize, count: usize, procs: &[u16; 32]) -> bool
 }
 
 // Whether the module and the procedure exist that the instruction op names, whose operand bytes are b and c.
-fn is_named(op: u8, b: u8, c: u8, count: usize, procs: &[u16; 32], m: Module) -> bool
-    requires { ⌜ count ≤ 32 ⌝ }
+fn is_named(op: u8, b: u8, c: u8, count: usize, procs: &[u16; MOST_MODULES], m: Module) -> bool
+    requires { ⌜ count ≤ mostModules ⌝ }
     ensures { λ r. ⌜ r ≡ named (counted count (now (procs .entry))) m op b c ⌝ }
 {
     if names_module(op) {
@@ -77,7 +78,7 @@ pub fn cause_at(
     image: &[u8],
     p: usize,
     count: usize,
-    procs: &[u16; 32],
+    procs: &[u16; MOST_MODULES],
     m: Module,
     sizes: &[u8; 256],
     kinds: &[u8; 256],
@@ -110,7 +111,7 @@ pub fn is_whole(
     image: &[u8],
     p: usize,
     count: usize,
-    procs: &[u16; 32],
+    procs: &[u16; MOST_MODULES],
     m: Module,
     sizes: &[u8; 256],
     kinds: &[u8; 256],

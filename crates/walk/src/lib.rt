@@ -8,6 +8,7 @@ use crate::ways::ways_at;
 use depths::blank;
 use marks::UNMARKED;
 use mcode::Flow;
+use mcode::MOST_MODULES;
 use mcode::Module;
 ghost use mathlib.Core.Path.{_≡_};
 ghost use Prim.Native.Nat.{_+_, _≤_, _<_};
@@ -137,7 +138,7 @@ pub fn lowest(
     image: &[u8],
     map: &[u32],
     count: usize,
-    procs: &[u16; 32],
+    procs: &[u16; MOST_MODULES],
     m: Module,
     sizes: &[u8; 256],
     kinds: &[u8; 256],

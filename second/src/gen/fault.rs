@@ -4,7 +4,7 @@
 use super::rng::Rng;
 use super::{add_procedure, literals};
 use crate::assemble::Source;
-use crate::image::Procedure;
+use crate::image::{Procedure, MOST_MODULES};
 use crate::opcode::{self, *};
 use crate::walk::{Cause, Named, Way};
 
@@ -253,7 +253,8 @@ impl Yard<'_> {
             Cause::OperandsOutside => self.cut(),
             NO_MODULE => {
                 let count = self.counts.len();
-                let module = self.rng.pick(&[count, count, count + 1, 32, 255]) as u8;
+                let beyond = [count, count, count + 1, MOST_MODULES, 255];
+                let module = self.rng.pick(&beyond) as u8;
                 let other = self.rng.byte();
                 self.code.extend([opcode, module, other]);
             }

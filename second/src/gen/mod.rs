@@ -8,6 +8,7 @@ mod fault;
 mod hostile;
 mod interrupted;
 mod lines;
+mod modules;
 mod requests;
 pub mod rng;
 mod saved;
@@ -18,7 +19,7 @@ mod unsigned;
 use crate::api;
 use crate::assemble::{encode, Source};
 use crate::case::{Case, CaseRun};
-use crate::image::{Procedure, ONLY_PROCEDURE};
+use crate::image::{Procedure, MOST_MODULES, ONLY_PROCEDURE};
 use crate::lent::FLAWS;
 use crate::machine::Machine;
 use crate::mark::{Mark, Saved, MOST, MOST_RESULTS, MOST_SAVED, UNMARKED};
@@ -88,7 +89,7 @@ pub const SMALL: Scale = Scale {
 };
 
 /// The cases of a round, each of a kind of its own or one of several.
-pub const ROUND: u64 = 52;
+pub const ROUND: u64 = 53;
 
 /// One case of a seed.
 pub fn case(scale: &Scale, seed: u64, index: u64) -> Case {
@@ -133,6 +134,7 @@ pub fn case(scale: &Scale, seed: u64, index: u64) -> Case {
         49 => traps::fates_case(rng, scale, round as usize),
         50 => caught::turn_case(rng, scale, round as usize),
         51 => channels::turn_case(rng, scale, round as usize),
+        52 => modules::turn_case(rng, round as usize),
         _ => sizes_case(rng, scale),
     };
     // The others are made run by run.
@@ -140,7 +142,7 @@ pub fn case(scale: &Scale, seed: u64, index: u64) -> Case {
         give_requests(rng, &mut case.runs);
         hostile::give_word_14(rng, &mut case.runs, case.store_length);
     }
-    // The last ones have inputs that were made for them.
+    // Those of READs have inputs that were made for them.
     if index % ROUND != 51 {
         keep_inputs(rng, scale, &mut case.runs);
     }
@@ -499,7 +501,7 @@ fn header_case(rng: &mut Rng, scale: &Scale) -> Case {
     }
     let mut image = encode(&modules);
     match fault {
-        6 => image[0] = rng.pick(&[0, 33, 32, 255]),
+        6 => image[0] = rng.pick(&[0, MOST_MODULES + 1, MOST_MODULES, 255]) as u8,
         7 => image[1] |= 1 << rng.within(3, 7),
         8 => image.truncate(rng.below(image.len().min(24))),
         9 => image.push(0),
@@ -832,8 +834,8 @@ fn large_case(rng: &mut Rng, kind: u64) -> Case {
         program(rng, &shape)
     };
     let (image, store_length) = match kind % 10 {
-        // 32 modules in the largest store.
-        0 => (encode(&many(rng, 32, 3, 1900)), 65_535),
+        // The most modules in the largest store.
+        0 => (encode(&many(rng, MOST_MODULES, 3, 2900)), 65_535),
         // One code of 32,767 bytes.
         1 => (encode(&[filled(32_767)]), 4_096),
         // 65,535 bytes: 1 + 3 + 32,767 + 3 + 32,761.

@@ -10,6 +10,7 @@ use super::{case_of, plain_run, words, Scale};
 use crate::api;
 use crate::assemble::{encode, Source};
 use crate::case::{Case, CaseRun};
+use crate::image::MOST_MODULES;
 use crate::machine::Machine;
 use crate::opcode::{RTN, SSW0, TRA};
 use crate::request::*;
@@ -254,7 +255,7 @@ pub fn refused_case(rng: &mut Rng, turn: usize) -> Case {
     let mut image = encode(&[Source::plain(&[RTN])]);
     match kind {
         0 => image.clear(),
-        1 => image[0] = rng.pick(&[0, 33, 255]),
+        1 => image[0] = rng.pick(&[0, MOST_MODULES + 1, 255]) as u8,
         2 => image.truncate(rng.within(1, 4)),
         3 => image.push(rng.byte()),
         4 => image[1] |= 1 << rng.within(3, 7),

@@ -227,7 +227,7 @@ impl World {
             _ => highest,
         };
         let s = match rng.below(3) {
-            0 | 1 => h - rng.below(6).min(h),
+            0 | 1 => h - rng.below(8).min(h),
             _ => rng.within(0, h),
         };
         let p = match rng.below(3) {

@@ -305,6 +305,14 @@ fn small_cases_and_their_coverage() {
     assert!(text(&output.stdout).contains(line));
     let read = "missing: no READs of channel 8\n";
     assert!(text(&output.stdout).contains(read));
+    for kind in [
+        "of the most modules accepted by load",
+        "refused with 2 for a count of 22",
+        "of one byte refused with 3 for 21",
+    ] {
+        let missing = format!("missing: no images {kind}\n");
+        assert!(text(&output.stdout).contains(&missing));
+    }
 }
 
 #[test]

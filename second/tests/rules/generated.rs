@@ -2,6 +2,7 @@
 
 use crate::channel_kinds::is_of_channels;
 use crate::line_kinds::is_of_lines;
+use crate::module_kinds::is_of_modules;
 use crate::rig::{channels_of_step, FF};
 use crate::trap_kinds::is_of_traps;
 use second::api::{run_observed, Buffers};
@@ -10,7 +11,7 @@ use second::case::{decode, encode, replay, Case, CaseRun, Checksum, RunOutcome};
 use second::coverage::{Coverage, Steps};
 use second::depths::fits;
 use second::gen::{self, Scale, FULL, ROUND, SMALL};
-use second::image::{parse, Module, Procedure, Program};
+use second::image::{parse, parse_modules, Module, Procedure, Program};
 use second::mark::Mark;
 use second::opcode::row;
 use second::{load, run, start, Machine, RunAnswer};
@@ -160,6 +161,25 @@ fn everything_is_covered() {
         of_channels.count(),
         16 + 3 + 3 + 12 + others + 4 + 11 + 2 + 6
     );
+    // What A.10 makes of counts, of modules at fault, of the last module and of places
+    // behind it.
+    assert_eq!(beginning("no images refused with 2 for a count of "), 4);
+    assert_eq!(beginning("no images of one byte refused "), 4);
+    assert_eq!(beginning("no images refused with 2 only for "), 3);
+    assert_eq!(beginning("no images of one module too many "), 7);
+    assert_eq!(beginning("no images of the most modules accepted "), 3 + 6);
+    assert_eq!(beginning("no images of the most modules refused "), 6 + 6);
+    assert_eq!(ending("of the most modules accepted by load"), 1);
+    assert_eq!(
+        ending("of the most modules accepted with the last one at CX"),
+        1
+    );
+    assert_eq!(beginning("no steps with the last of the most modules "), 6);
+    assert_eq!(beginning("no steps to the last of the most modules "), 5);
+    assert_eq!(beginning("no steps from the last of the most modules "), 5);
+    assert_eq!(beginning("no runs of the most modules "), 3);
+    let of_modules = faults.iter().filter(|fault| is_of_modules(fault));
+    assert_eq!(of_modules.count(), 4 + 4 + 3 + 7 + 9 + 12 + 6 + 10 + 3);
 }
 
 /// A module, and entry, parameters and results of its procedures.
@@ -1173,6 +1193,128 @@ fn reads_are_kept() {
     assert_eq!(kept, steps.opcodes[0o240]);
 }
 
+/// The cases of A.10 in so many rounds that each has had its turn, but for some.
+fn cases_of_modules<'a>(
+    scale: &'a Scale,
+    seed: u64,
+    left_out: &'a [u64],
+) -> impl Iterator<Item = Case> + 'a {
+    let rounds = (0..29).filter(|round| !left_out.contains(round));
+    rounds.map(move |round| gen::case(scale, seed, ROUND * round + 52))
+}
+
+fn missing_modules(cases: impl Iterator<Item = Case>) -> Vec<String> {
+    let mut missing = Coverage::of(cases).faults();
+    missing.retain(|fault| is_of_modules(fault));
+    missing
+}
+
+/// They have every kind, whatever the seed.
+#[test]
+fn modules_are_generated() {
+    let seeds = (1..=24).map(|seed| (&SMALL, seed));
+    for (scale, seed) in seeds.chain([(&FULL, 1)]) {
+        let missing = missing_modules(cases_of_modules(scale, seed, &[]));
+        assert_eq!(missing, [""; 0], "seed {seed}");
+    }
+}
+
+/// Without the cases of one turn or more, something is missing.
+#[test]
+fn kinds_of_modules_are_needed() {
+    let missing = |left_out: &[u64]| missing_modules(cases_of_modules(&SMALL, SEED, left_out));
+    // Steps there and back, and places behind; what names the module, and calls.
+    let most = missing(&[0]);
+    let beginning = |begin: &str| most.iter().filter(|it| it.starts_with(begin)).count();
+    assert_eq!(beginning("no steps "), 6 + 5 + 5);
+    assert_eq!(beginning("no runs of the most modules "), 3);
+    assert_eq!(beginning("no images of the most modules accepted "), 6 + 2);
+    let check = |left_out: &[u64], title: &str, kinds: &[&str]| {
+        let expected = kinds.iter().map(|kind| format!("no {title} {kind}"));
+        assert_eq!(missing(left_out), expected.collect::<Vec<_>>());
+    };
+    let in_turn = |first: u64, title: &str, kinds: &[&str]| {
+        for (turn, kind) in (first..).zip(kinds) {
+            check(&[turn], title, &[kind]);
+        }
+    };
+    let only = "images refused with 2 only for one module too many by";
+    check(&[1], only, &["load", "run"]);
+    let alone = [
+        "with 2 for 0",
+        "with 2 for 22",
+        "with 2 for 255",
+        "with 3 for 21",
+    ];
+    in_turn(2, "images of one byte refused", &alone);
+    let counts = "images refused with 2 for a count of";
+    check(&[6], counts, &["0"]);
+    in_turn(8, counts, &["23 to 254", "255"]);
+    let before = "images of one module too many refused with 2 before";
+    check(&[7, 10], before, &["3"]);
+    in_turn(11, before, &["4", "5", "6", "7", "8", "13"]);
+    let behind = "images of the most modules refused behind sound ones with";
+    in_turn(17, behind, &["3", "4", "5", "6", "8"]);
+    let next = "images of the most modules refused with 13 for the next one at";
+    in_turn(23, next, &["LEA", "LEW", "LED", "SEW", "SED", "CX"]);
+    // Other cases have these too.
+    let too_many: Vec<u64> = [1, 7].into_iter().chain(10..=16).collect();
+    assert!(missing(&too_many).contains(&format!("no {counts} 22")));
+    let not_whole: Vec<u64> = (22..=28).collect();
+    assert!(missing(&not_whole).contains(&format!("no {behind} 13")));
+}
+
+/// The main program goes to the last module and back by calls, step by step and in one
+/// run; there is no module behind it.
+#[test]
+fn the_last_module_is_run() {
+    for seed in 1..=24 {
+        let case = gen::case(&SMALL, seed, 52);
+        let outcome = replay(&case, &mut ());
+        let program = parse(&case.image).unwrap();
+        assert_eq!((program.modules.len(), outcome.load.number), (21, 0));
+        let modules: Vec<u8> = outcome.runs.iter().map(|run| run.handed.module).collect();
+        // Six steps and a call; another call; a return to the last module, and one from it.
+        let callee = modules[8];
+        assert_eq!(modules[..9], [0, 0, 0, 0, 0, 0, 0, 20, callee]);
+        assert_eq!(modules[9..11], [20, 0]);
+        assert!((1..20).contains(&callee));
+        let (stepped, whole) = (&outcome.runs[9], &outcome.runs[10]);
+        assert_eq!(whole.answer.machine, stepped.answer.machine);
+        assert_eq!((whole.answer.number, whole.answer.count), (30, 10));
+        // By a transfer, a line and a trap, there and back.
+        let changes: Vec<[u8; 2]> = outcome.runs[11..17]
+            .iter()
+            .map(|run| [run.handed.module, run.answer.machine.module])
+            .collect();
+        assert_eq!(changes[..3], [[0, 20]; 3]);
+        assert_eq!(changes[3..], [[20, 0]; 3]);
+        let beyond: Vec<u8> = outcome.runs[17..]
+            .iter()
+            .map(|run| run.answer.number)
+            .collect();
+        assert_eq!(beyond, [11, 34, 35]);
+    }
+}
+
+/// Nothing but the count is at fault: without the last of the modules an image is accepted.
+#[test]
+fn one_module_too_many_is_all() {
+    for seed in 1..=24 {
+        let mut case = gen::case(&SMALL, seed, ROUND + 52);
+        let outcome = replay(&case, &mut ());
+        let numbers = outcome.runs.iter().map(|run| run.answer.number);
+        assert_eq!((outcome.load.number, outcome.start), (2, 2));
+        assert_eq!(numbers.collect::<Vec<_>>(), [2, 2]);
+        let program = parse_modules(&case.image, 22).unwrap();
+        assert_eq!(case.image[0], 22);
+        case.image.truncate(program.modules[20].code_range().end);
+        case.image[0] = 21;
+        let outcome = replay(&case, &mut ());
+        assert_eq!((outcome.load.number, outcome.start), (0, 0));
+    }
+}
+
 /// Any word 14 comes in cases of other kinds, and most traps of these are stops.
 #[test]
 fn other_cases_catch_few_traps() {
@@ -1375,7 +1517,7 @@ fn small_cases_have_the_largest_sizes() {
     assert_eq!(largest(|case| case.image.len()), Some(65_536));
     assert_eq!(largest(|case| case.store_length), Some(65_536));
     let modules = |case: &Case| parse(&case.image).map_or(0, |program| program.modules.len());
-    assert_eq!(largest(modules), Some(32));
+    assert_eq!(largest(modules), Some(21));
     let code = |case: &Case| {
         let modules = parse(&case.image).map_or(Vec::new(), |program| program.modules);
         modules
@@ -1541,7 +1683,7 @@ fn run_again(cases: impl Iterator<Item = Case>, channels: fn(u16) -> u16) -> [u3
 
 /// Cases with many READs.
 fn cases_that_read() -> impl Iterator<Item = Case> {
-    let others = gen::cases(&FULL, 16, 700);
+    let others = gen::cases(&FULL, 16, 900);
     others.chain(gen::cases(&SMALL, SEED, 3008))
 }
 

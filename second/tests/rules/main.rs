@@ -11,6 +11,8 @@ mod kinds;
 mod line_kinds;
 mod lines;
 mod marked;
+mod module_kinds;
+mod modules;
 mod oracle;
 mod pairs;
 mod procedures;

@@ -166,8 +166,8 @@ fn far_calls_and_returns() {
 
 /// The most modules: each calls the next, the last one traps.
 #[test]
-fn thirty_two_modules() {
-    let mut modules: Vec<Source> = (1..32)
+fn twenty_one_modules() {
+    let mut modules: Vec<Source> = (1..21)
         .map(|next| Source {
             data_size: next.into(),
             ..Source::plain(&[0o355, next, 0, 0o354])
@@ -175,18 +175,18 @@ fn thirty_two_modules() {
         .collect();
     modules.push(Source::plain(&[0o025, 5, 0o304]));
     let mut rig = Rig::new(&modules, WORDS);
-    // 31 modules with data of 1 to 31 words lie below the last base.
-    let base = 128 + 31 * 3 + 31 * 32 / 2;
-    assert_eq!(rig.store[63], base);
-    assert_eq!(rig.store[64], 0);
+    // 20 modules with data of 1 to 20 words lie below the last base.
+    let base = 128 + 20 * 3 + 20 * 21 / 2;
+    assert_eq!(rig.store[52], base);
+    assert_eq!(rig.store[53], 0);
     assert_eq!(rig.machine.p, base + 3);
     let answer = rig.run(100);
     assert_eq!(
         (answer.number, answer.code, answer.count),
-        (40, base + 5, 32)
+        (40, base + 5, 21)
     );
-    assert_eq!((rig.machine.module, rig.machine.pc), (31, 2));
-    assert_eq!(rig.machine.s, base + 3 + 12 + 31 * 4);
+    assert_eq!((rig.machine.module, rig.machine.pc), (20, 2));
+    assert_eq!(rig.machine.s, base + 3 + 12 + 20 * 4);
 }
 
 /// A rig before an RTN at depth `words.len()`, which are the results, with this

@@ -17,8 +17,8 @@ fn sizes_and_counts() {
     assert_eq!(refusal(&[0; 65_536]), 1);
     assert_eq!(refusal(&[0; 65_535]), 2);
     assert_eq!(refusal(&[0x00]), 2);
-    assert_eq!(refusal(&[0x21]), 2);
-    assert_eq!(refusal(&[0x20]), 3);
+    assert_eq!(refusal(&[22]), 2);
+    assert_eq!(refusal(&[21]), 3);
     assert_eq!(refusal(&[0xFF, 0x00]), 2);
 }
 

@@ -143,7 +143,7 @@ fn missing_modules() {
     for opcode in [0o027, 0o042, 0o062, 0o043, 0o063, 0o355] {
         let main = |m: u8| Source::plain(&[NOP, opcode, m, 0, RTN]);
         let others = |count: usize| vec![Source::plain(&[RTN]); count];
-        for count in [1, 2, 31, 32] {
+        for count in [1, 2, 20, 21] {
             let modules = |m: u8| [vec![main(m)], others(count - 1)].concat();
             assert_ne!(answer(&modules(0)).0, 13);
             assert_ne!(answer(&modules(count as u8 - 1)).0, 13);
@@ -486,9 +486,9 @@ fn modules_in_order() {
 /// The last module and the last position that there are.
 #[test]
 fn the_highest_places() {
-    let mut modules = vec![Source::plain(&[RTN]); 32];
-    modules[31] = Source::plain(&[NOP, NOP, UNLISTED]);
-    assert_eq!(answer(&modules), (13, 31, 2));
+    let mut modules = vec![Source::plain(&[RTN]); 21];
+    modules[20] = Source::plain(&[NOP, NOP, UNLISTED]);
+    assert_eq!(answer(&modules), (13, 20, 2));
     let mut code = vec![NOP; 32_767];
     assert_eq!(answer_of(&code), (13, 0, 32_766));
     code[32_766] = UNLISTED;
@@ -522,7 +522,7 @@ fn other_refusals_come_first() {
     let later = |rest: &[u8]| [&[2, 0, 0, 1, UNLISTED], rest].concat();
     for (image, number) in [
         (vec![], 1),
-        (vec![33, 0, 0, 1, UNLISTED], 2),
+        (vec![22, 0, 0, 1, UNLISTED], 2),
         (later(&[]), 3),
         (later(&[0, 0, 1]), 3),
         (later(&[0, 0, 1, RTN, 0]), 4),

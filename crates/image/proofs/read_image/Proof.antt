@@ -1,6 +1,7 @@
 -- The answer is parse, for every byte string.
 use Prim.Native.Nat.{_-_}
-use Rattle.mcode.specs.Image.{parse}
+use Rattle.mcode.specs.Word.{byte}
+use Rattle.mcode.specs.Image.{mostModules, parse}
 use native.Mathlib.Omega.{arith}
 use borrow.Author.Tests.{ne-eqb, lt-ltb, le-ltb, eq-eqb}
 use borrow.Author.Needs.{needs}
@@ -39,7 +40,7 @@ refused-requires-4 c κs = search needs
 
 returns-4 : tie.Need-returns-4
 unfolding parse
-returns-4 c = simp (ne-eqb _ _ (c .before .before .before .before .before .if1 .left), le-ltb _ _ (c .before .before .before .before .if2 .left), ne-eqb _ _ (c .before .before .if3 .left), lt-ltb _ _ (c .before .if4 .taken)) (c .refused4 .ensures)
+returns-4 c = simp (ne-eqb _ _ (c .before .before .before .before .before .if1 .left), le-ltb _ _ (c .before .before .before .before .if2 .left), ne-eqb _ _ (c .before .before .if3 .left), lt-ltb mostModules (byte (c .before .before .before .before .before .before .before .args .s .now) 0) (omega (arith, c .before .if4 .taken))) (c .refused4 .ensures)
 
 read-modules-requires : tie.Need-read-modules-requires
 read-modules-requires c κs = search needs

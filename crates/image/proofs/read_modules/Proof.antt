@@ -2,7 +2,7 @@
 use mathlib.Core.Path.{_≡_, sym, _∙_}
 use Prim.Native.Nat.{_+_, _-_, _*_, _≤_}
 use lib.ListN.{replicate}
-use Rattle.mcode.specs.Image.{firstModule, modulesFrom, noModule}
+use Rattle.mcode.specs.Image.{firstModule, mostModules, modulesFrom, noModule}
 use Rattle.image.proofs.Laws.{more-modules, unread-module, last-module, bytes-after, first-module}
 use native.Mathlib.Omega.{arith}
 use borrow.Author.Needs.{needs}
@@ -11,7 +11,7 @@ use Rattle.image.proofs.read_modules.Tie as tie
 
 abbrev Inv-loop : tie.InvT-loop
 Inv-loop s count table₀ at₀ base₀ i₀ table at base i =
-    (i ≤ count) × (base ≤ firstModule + 65538 * i) × (modulesFrom s count 0 1 firstModule (replicate 32 noModule) ≡ modulesFrom s (count - i) i at base table)
+    (i ≤ count) × (base ≤ firstModule + 65538 * i) × (modulesFrom s count 0 1 firstModule (replicate mostModules noModule) ≡ modulesFrom s (count - i) i at base table)
 
 abbrev μ-loop : tie.MeasureT-loop
 μ-loop s count table₀ at₀ base₀ i₀ table at base i = count - i

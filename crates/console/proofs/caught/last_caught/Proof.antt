@@ -35,15 +35,15 @@ returns-3 : tie.Need-returns-3
 unfolding lastCaught
 returns-3 c = rw (le-ltb _ _ (c .before .before .before .before .if1 .left), ← c .before .before .before .word-at .ensures, ne-eqb _ _ (c .before .before .if2 .left), lt-ltb _ _ (c .before .if3 .taken)) (c .none3 .ensures)
 
-at-most-32-requires : tie.Need-at-most-32-requires
-at-most-32-requires c κs = search needs
+few-modules-requires : tie.Need-few-modules-requires
+few-modules-requires c κs = search needs
 
 record-tells-requires : tie.Need-record-tells-requires
 record-tells-requires c κs = search needs
 
 returns-4 : tie.Need-returns-4
 unfolding lastCaught
-returns-4 c = rw (le-ltb _ _ (c .before .before .before .before .before .if1 .left), ← c .before .before .before .before .word-at .ensures, ne-eqb _ _ (c .before .before .before .if2 .left), le-ltb _ _ (c .before .before .if3 .left), ← c .before .at-most-32 .ensures .0) (c .record-tells .ensures)
+returns-4 c = rw (le-ltb _ _ (c .before .before .before .before .before .if1 .left), ← c .before .before .before .before .word-at .ensures, ne-eqb _ _ (c .before .before .before .if2 .left), le-ltb _ _ (c .before .before .if3 .left), ← c .before .few-modules .ensures .0) (c .record-tells .ensures)
 
 pub last-caught-spec : {M : Type 1} → statement M
 last-caught-spec =
@@ -58,6 +58,6 @@ last-caught-spec =
     add-if3
     none-requires-3
     returns-3
-    at-most-32-requires
+    few-modules-requires
     record-tells-requires
     returns-4)

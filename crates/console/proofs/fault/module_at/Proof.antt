@@ -3,6 +3,7 @@ use mathlib.Core.Path.{_≡_, refl, sym, _∙_}
 use Prim.Native.Nat.{ℕ, _+_, _-_, _≤_, _<_}
 use lib.ListN.{length, set, length-set}
 use borrow.Author.Count.{below-more}
+use Rattle.mcode.specs.Image.{mostModules}
 use Rattle.console.specs.Faults.{CountRefused}
 use Rattle.console.proofs.Searches.{told, restored, set-again}
 use native.Mathlib.Omega.{arith}
@@ -11,10 +12,10 @@ use Rattle.console.proofs.fault.module_at.Statement.{statement}
 use Rattle.console.proofs.fault.module_at.Tie as tie
 
 abbrev Inv-loop : tie.InvT-loop
-Inv-loop image₀ number count m₀ image m = ((x : ℕ) → set image 0 x ≡ set image₀ 0 x) × (length image ≡ length image₀) × (m ≤ 31) × ((k : ℕ) → k < m → CountRefused image₀ number k → ⊥)
+Inv-loop image₀ number count m₀ image m = ((x : ℕ) → set image 0 x ≡ set image₀ 0 x) × (length image ≡ length image₀) × (m ≤ mostModules - 1) × ((k : ℕ) → k < m → CountRefused image₀ number k → ⊥)
 
 abbrev μ-loop : tie.MeasureT-loop
-μ-loop image₀ number count m₀ image m = 31 - m
+μ-loop image₀ number count m₀ image m = mostModules - 1 - m
 
 slice-read-count : tie.Need-slice-read-count Inv-loop μ-loop
 slice-read-count c = search needs

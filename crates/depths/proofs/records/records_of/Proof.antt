@@ -3,7 +3,7 @@ use mathlib.Core.Path.{_≡_, refl, _∙_}
 use Prim.Native.Nat.{ℕ, _-_, _≤_, _<_}
 use lib.ListN.{length, getD, length-set}
 use borrow.Author.Count.{below-none}
-use Rattle.mcode.specs.Image.{moduleOf}
+use Rattle.mcode.specs.Image.{mostModules, moduleOf}
 use Rattle.depths.proofs.Same.{set-more}
 use native.Mathlib.Omega.{arith}
 use borrow.Author.Needs.{needs}
@@ -12,7 +12,7 @@ use Rattle.depths.proofs.records.records_of.Tie as tie
 
 abbrev Inv-loop : tie.InvT-loop
 Inv-loop program procs₀ tables₀ k₀ procs tables k =
-    (k ≤ program .count) × (length procs ≡ 32) × (length tables ≡ 32)
+    (k ≤ program .count) × (length procs ≡ mostModules) × (length tables ≡ mostModules)
     × ((j : ℕ) → j < k → getD procs j 0 ≡ moduleOf program j .procs) × ((j : ℕ) → j < k → getD tables j 0 ≡ moduleOf program j .table)
 
 abbrev μ-loop : tie.MeasureT-loop

@@ -53,6 +53,7 @@ use denote.Triple.Walked.{says, needs, Stays, stay-dropped, stay-slice, walkOf, 
 use denote.Exit.{yes}
 use denote.Signature.{plain, shrSliceOf, shrRefTo}
 use denote.Signature.Array.{arrayOf}
+use Rattle.actions.specs.Table.{tableWords}
 use Rattle.mcode.specs.Image.{parse}
 use Rattle.mcode.specs.Machine.{State, OutcomeOf, isMachine, state}
 use Rattle.mcode.specs.Step.{Lent, quietOf, quietRead}
@@ -94,7 +95,7 @@ abbrev Rh : RattleType
 Rh = H′.the-row
 
 abbrev Rt : RattleType
-Rt = Array u16 193
+Rt = Array u16 tableWords
 
 abbrev mach : Machine → Val
 mach m = only (LL.vals M′.the-type ML.the-laws m)
@@ -137,7 +138,7 @@ went-here k z = eqb-true k 0 (not-false (eqb k 0) (is-false (not (eqb k 0)) z))
 
 -- of the shared references nothing is had at exit
 abbrev stayed : Stays (this.ended .signature .params) (this.ended .kept)
-stayed = (stay-dropped (plain (λ _. Rm)) yes, (stay-dropped (shrSliceOf (0 ∷ []) tt (plain (λ _. u8))) yes, (stay-dropped (shrRefTo (1 ∷ []) tt (arrayOf (plain (λ _. u16)) 193)) yes, (stay-dropped (shrSliceOf (2 ∷ []) tt (plain (λ _. u32))) yes, (stay-slice (3 ∷ []) tt (plain (λ _. u16)), (stay-dropped (shrSliceOf (4 ∷ []) tt (plain (λ _. u16))) yes, (stay-slice (5 ∷ []) tt (plain (λ _. u16)), (stay-dropped (plain (λ _. u32)) yes, tt))))))))
+stayed = (stay-dropped (plain (λ _. Rm)) yes, (stay-dropped (shrSliceOf (0 ∷ []) tt (plain (λ _. u8))) yes, (stay-dropped (shrRefTo (1 ∷ []) tt (arrayOf (plain (λ _. u16)) tableWords)) yes, (stay-dropped (shrSliceOf (2 ∷ []) tt (plain (λ _. u32))) yes, (stay-slice (3 ∷ []) tt (plain (λ _. u16)), (stay-dropped (shrSliceOf (4 ∷ []) tt (plain (λ _. u16))) yes, (stay-slice (5 ∷ []) tt (plain (λ _. u16)), (stay-dropped (plain (λ _. u32)) yes, tt))))))))
 
 -- the contract that the proof cites
 abbrev Step : {M : Type 1} (𝓤 : URA M) (H : Heap 𝓤) (A : Atoms 𝓤) (mem : Memory → SProp 𝓤) (run : Routine → Fun 𝓤) → Contract 𝓤
@@ -433,7 +434,7 @@ module _ {M : Type 1} (𝓤 : URA M) (H : Heap 𝓤) (A : Atoms 𝓤) (W : Given
       (are .1 .0 .0 .1) (are .1 .1 .1 .0 .0 .1) (are .1 .1 .1 .1 .0 .0 .1) (are .1 .1 .1 .1 .1 .0 .0 .1) (are .1 .1 .1 .1 .1 .1 .0 .0 .1)))
 
   this-goes : AllGo 𝓤 H A W 6 (this.signature .params) (this.ended .kept) stayed
-  this-goes = (goes-dropped 𝓤 H A W 6 (plain (λ _. Rm)) yes (λ κs x f. refl), (goes-dropped 𝓤 H A W 6 (shrSliceOf (0 ∷ []) tt (plain (λ _. u8))) yes (λ κs x f. refl), (goes-dropped 𝓤 H A W 6 (shrRefTo (1 ∷ []) tt (arrayOf (plain (λ _. u16)) 193)) yes (λ κs x f. refl), (goes-dropped 𝓤 H A W 6 (shrSliceOf (2 ∷ []) tt (plain (λ _. u32))) yes (λ κs x f. refl), (goes-slice 𝓤 H A W 6 3 tt (plain (λ _. u16)), (goes-dropped 𝓤 H A W 6 (shrSliceOf (4 ∷ []) tt (plain (λ _. u16))) yes (λ κs x f. refl), (goes-slice 𝓤 H A W 6 5 tt (plain (λ _. u16)), (goes-dropped 𝓤 H A W 6 (plain (λ _. u32)) yes (λ κs x f. refl), tt))))))))
+  this-goes = (goes-dropped 𝓤 H A W 6 (plain (λ _. Rm)) yes (λ κs x f. refl), (goes-dropped 𝓤 H A W 6 (shrSliceOf (0 ∷ []) tt (plain (λ _. u8))) yes (λ κs x f. refl), (goes-dropped 𝓤 H A W 6 (shrRefTo (1 ∷ []) tt (arrayOf (plain (λ _. u16)) tableWords)) yes (λ κs x f. refl), (goes-dropped 𝓤 H A W 6 (shrSliceOf (2 ∷ []) tt (plain (λ _. u32))) yes (λ κs x f. refl), (goes-slice 𝓤 H A W 6 3 tt (plain (λ _. u16)), (goes-dropped 𝓤 H A W 6 (shrSliceOf (4 ∷ []) tt (plain (λ _. u16))) yes (λ κs x f. refl), (goes-slice 𝓤 H A W 6 5 tt (plain (λ _. u16)), (goes-dropped 𝓤 H A W 6 (plain (λ _. u32)) yes (λ κs x f. refl), tt))))))))
 
 this-meets : {M : Type 1} (𝓤 : URA M) (H : Heap 𝓤) (A : Atoms 𝓤) → Given 𝓤 H A → (mem : Memory → SProp 𝓤) (run : Routine → Fun 𝓤) (𝓣 : Tables 𝓤 H) → Triple 𝓤 (𝓣 .C #in_place·step-in-place) (Step 𝓤 H A mem run)
     → Meets 𝓤 H A this.signature (WpFn 𝓤 H (𝓣 .C) (𝓣 .Λ) code.function) (this.spec 𝓤 H A mem run)

@@ -44,6 +44,7 @@ use denote.Triple.Walked.{Stays, stay-ref, stay-dropped, gave-slice, walkOf, All
 use denote.Exit.{yes}
 use denote.Signature.{plain, shrSliceOf, shrRefTo}
 use denote.Signature.Array.{arrayOf}
+use Rattle.actions.specs.Table.{tableWords}
 use Rattle.mcode.specs.Image.{parse}
 use Rattle.mcode.specs.Machine.{isMachine, state}
 use Rattle.mcode.specs.Step.{quietOf, quietRead}
@@ -80,11 +81,11 @@ abbrev Rh : RattleType
 Rh = H′.the-row
 
 abbrev Rt : RattleType
-Rt = Array u16 193
+Rt = Array u16 tableWords
 
 -- a shared reference is given to the callee, and nothing is had of it at exit
 abbrev stayed : Stays (this.ended .signature .params) (this.ended .kept)
-stayed = (stay-ref (0 ∷ []) tt (plain (λ _. Rm)), (stay-dropped (shrSliceOf (1 ∷ []) tt (plain (λ _. u8))) yes, (stay-dropped (shrRefTo (2 ∷ []) tt (arrayOf (plain (λ _. u16)) 193)) yes, (stay-dropped (shrSliceOf (3 ∷ []) tt (plain (λ _. u32))) yes, (gave-slice (4 ∷ []) tt (plain (λ _. u16)), (stay-dropped (shrSliceOf (5 ∷ []) tt (plain (λ _. u16))) yes, (gave-slice (6 ∷ []) tt (plain (λ _. u16)), tt)))))))
+stayed = (stay-ref (0 ∷ []) tt (plain (λ _. Rm)), (stay-dropped (shrSliceOf (1 ∷ []) tt (plain (λ _. u8))) yes, (stay-dropped (shrRefTo (2 ∷ []) tt (arrayOf (plain (λ _. u16)) tableWords)) yes, (stay-dropped (shrSliceOf (3 ∷ []) tt (plain (λ _. u32))) yes, (gave-slice (4 ∷ []) tt (plain (λ _. u16)), (stay-dropped (shrSliceOf (5 ∷ []) tt (plain (λ _. u16))) yes, (gave-slice (6 ∷ []) tt (plain (λ _. u16)), tt)))))))
 
 -- the contract that the proof cites
 abbrev Step : {M : Type 1} (𝓤 : URA M) (H : Heap 𝓤) (A : Atoms 𝓤) (mem : Memory → SProp 𝓤) (run : Routine → Fun 𝓤) → Contract 𝓤
@@ -226,7 +227,7 @@ module _ {M : Type 1} (𝓤 : URA M) (H : Heap 𝓤) (A : Atoms 𝓤) (W : Given
       (are .1 .0 .0 .1) (are .1 .1 .1 .0 .0 .1) (are .1 .1 .1 .1 .0 .0 .1) (are .1 .1 .1 .1 .1 .0 .0 .1) (are .1 .1 .1 .1 .1 .1 .0 .0 .1)))
 
   this-goes : AllGo 𝓤 H A W 7 (this.signature .params) (this.ended .kept) stayed
-  this-goes = (goes-ref 𝓤 H A W 7 0 tt (plain (λ _. Rm)), (goes-dropped 𝓤 H A W 7 (shrSliceOf (1 ∷ []) tt (plain (λ _. u8))) yes (λ κs x f. refl), (goes-dropped 𝓤 H A W 7 (shrRefTo (2 ∷ []) tt (arrayOf (plain (λ _. u16)) 193)) yes (λ κs x f. refl), (goes-dropped 𝓤 H A W 7 (shrSliceOf (3 ∷ []) tt (plain (λ _. u32))) yes (λ κs x f. refl), (goes-gave-slice 𝓤 H A W 7 4 tt (plain (λ _. u16)), (goes-dropped 𝓤 H A W 7 (shrSliceOf (5 ∷ []) tt (plain (λ _. u16))) yes (λ κs x f. refl), (goes-gave-slice 𝓤 H A W 7 6 tt (plain (λ _. u16)), tt)))))))
+  this-goes = (goes-ref 𝓤 H A W 7 0 tt (plain (λ _. Rm)), (goes-dropped 𝓤 H A W 7 (shrSliceOf (1 ∷ []) tt (plain (λ _. u8))) yes (λ κs x f. refl), (goes-dropped 𝓤 H A W 7 (shrRefTo (2 ∷ []) tt (arrayOf (plain (λ _. u16)) tableWords)) yes (λ κs x f. refl), (goes-dropped 𝓤 H A W 7 (shrSliceOf (3 ∷ []) tt (plain (λ _. u32))) yes (λ κs x f. refl), (goes-gave-slice 𝓤 H A W 7 4 tt (plain (λ _. u16)), (goes-dropped 𝓤 H A W 7 (shrSliceOf (5 ∷ []) tt (plain (λ _. u16))) yes (λ κs x f. refl), (goes-gave-slice 𝓤 H A W 7 6 tt (plain (λ _. u16)), tt)))))))
 
 this-meets : {M : Type 1} (𝓤 : URA M) (H : Heap 𝓤) (A : Atoms 𝓤) → Given 𝓤 H A → (mem : Memory → SProp 𝓤) (run : Routine → Fun 𝓤) (𝓣 : Tables 𝓤 H) → Triple 𝓤 (𝓣 .C #execute·step) (Step 𝓤 H A mem run)
     → Meets 𝓤 H A this.signature (WpFn 𝓤 H (𝓣 .C) (𝓣 .Λ) code.function) (this.spec 𝓤 H A mem run)

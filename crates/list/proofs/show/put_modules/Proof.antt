@@ -3,6 +3,7 @@ use mathlib.Core.Path.{_≡_, refl, _∙_}
 use Prim.Native.Nat.{_-_}
 use lib.ListN.{length}
 use borrow.Author.Needs.{needs}
+use Rattle.mcode.specs.Image.{mostModules}
 use Rattle.list.proofs.show.put_modules.Statement.{statement}
 use Rattle.list.proofs.show.put_modules.Tie as tie
 
@@ -10,7 +11,7 @@ abbrev Inv-loop : tie.InvT-loop
 Inv-loop out₀ used₀ image map₀ notes₀ refused why program k₀ out used map notes k = (length map ≡ length map₀) × (length notes ≡ length notes₀)
 
 abbrev μ-loop : tie.MeasureT-loop
-μ-loop out₀ used₀ image map₀ notes₀ refused why program k₀ out used map notes k = 32 - k
+μ-loop out₀ used₀ image map₀ notes₀ refused why program k₀ out used map notes k = mostModules - k
 
 loop-holds : tie.Need-loop-holds Inv-loop μ-loop
 loop-holds c = (refl, refl)

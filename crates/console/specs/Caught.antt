@@ -17,7 +17,7 @@ noneCaught = record { number = 0; process = 0; unit = 0; pc = 0 }
 abbrev pub isTrap : ℕ → Bool
 isTrap n = and (leb 32 n) (leb n 40)
 
--- no image has more than 21 modules
+-- no image has more modules
 abbrev pub fewModules : ℕ → ℕ
 fewModules n = pick (ltb mostModules n) mostModules n
 

@@ -1,6 +1,5 @@
-/* stack FILE..: the most bytes of stack that each function of the C library takes on these images, and on one of the most modules that
- * call each other in turn. Each call is made on a stack of its own, painted before, of which the lowest changed byte is looked for; what
- * an empty call takes there is taken off. bench/size builds it. */
+/* stack FILE..: the most bytes of stack that each function of the C library takes on these images. Each call is made on a stack of its
+ * own, painted before, of which the lowest changed byte is looked for; what an empty call takes there is taken off. bench/size builds it. */
 #include <stdio.h>
 #include <string.h>
 #include <ucontext.h>
@@ -20,7 +19,6 @@ static uint16_t place[CEMBUXOLA_PLACE_WORDS], store[WORDS], machine[CEMBUXOLA_MA
 static const uint16_t inputs[CEMBUXOLA_CHANNELS];
 static uint32_t answer[CEMBUXOLA_ANSWER_NUMBERS];
 static size_t length;
-static uint32_t steps;
 
 static void none(void)
 {
@@ -46,7 +44,6 @@ static void run_with(uint16_t requests)
 static void run(void)
 {
     run_with(0);
-    steps = answer[0];
     run_with(1 << 8);
 }
 
@@ -67,48 +64,14 @@ static size_t taken(void (*call)(void))
     return STACK - untouched;
 }
 
-#define CALLS 3
-
-static const struct {
-    const char *name;
-    void (*call)(void);
-} calls[CALLS] = {{"load", load}, {"start", start}, {"run", run}};
-static size_t most[CALLS];
-
-/* Of the image that is there. */
-static void measure(void)
-{
-    size_t empty = taken(none);
-    for (int k = 0; k < CALLS; k++) {
-        size_t bytes = taken(calls[k].call) - empty;
-        if (most[k] < bytes)
-            most[k] = bytes;
-    }
-}
-
-/* The most modules: each calls procedure 0 of the next one and returns, the last only returns. 0 where the run does not end so. */
-static int measure_most_modules(void)
-{
-    image[0] = CEMBUXOLA_MOST_MODULES;
-    length = 1;
-    for (int m = 1; m < CEMBUXOLA_MOST_MODULES; m++) {
-        const uint8_t calling[] = {0, 0, 4, 0355, (uint8_t)m, 0, 0354};
-        memcpy(image + length, calling, sizeof calling);
-        length += sizeof calling;
-    }
-    const uint8_t last[] = {0, 0, 1, 0354};
-    memcpy(image + length, last, sizeof last);
-    length += sizeof last;
-    measure();
-    return steps == 2 * CEMBUXOLA_MOST_MODULES - 2;
-}
-
 int main(int count, char **arguments)
 {
-    if (!measure_most_modules()) {
-        fprintf(stderr, "stack: an image of %d modules does not run to its end\n", CEMBUXOLA_MOST_MODULES);
-        return 1;
-    }
+    static const struct {
+        const char *name;
+        void (*call)(void);
+    } calls[] = {{"load", load}, {"start", start}, {"run", run}};
+    size_t most[3] = {0};
+    size_t empty = taken(none);
     for (int i = 1; i < count; i++) {
         FILE *file = fopen(arguments[i], "rb");
         if (file == NULL) {
@@ -117,9 +80,13 @@ int main(int count, char **arguments)
         }
         length = fread(image, 1, MOST_BYTES, file);
         fclose(file);
-        measure();
+        for (int k = 0; k < 3; k++) {
+            size_t bytes = taken(calls[k].call) - empty;
+            if (most[k] < bytes)
+                most[k] = bytes;
+        }
     }
-    for (int k = 0; k < CALLS; k++)
+    for (int k = 0; k < 3; k++)
         printf("stack of %-15s %6zu bytes\n", calls[k].name, most[k]);
     return 0;
 }

@@ -176,6 +176,8 @@ fn any_other_count_is_refused_before_all_else_of_the_image() {
                 0,
             );
             assert_eq!(ran, Err(Refusal::ModuleCount));
+            assert_eq!((machine, outputs), (Machine::default(), [5; CHANNELS]));
+            assert!(store == [7; 4096]);
         }
     }
     let words = "refused 2: module count 0 or over 21";

@@ -172,6 +172,10 @@ callsIn image program k i n e = pick (ltb k (program .count)) (calls image (modu
 abbrev pub namesModule : ℕ → Bool
 namesModule op = or (eqb op 0o27) (or (eqb op 0o42) (or (eqb op 0o62) (or (eqb op 0o43) (eqb op 0o63))))
 
+-- the opcodes whose first operand byte is a module: these, and the call 355
+abbrev pub takesModule : ℕ → Bool
+takesModule op = or (namesModule op) (eqb op 0o355)
+
 -- a listed instruction op of module m at p, whose operand bytes are b and c; n is the next position, e the depth that its row
 -- says. "RTN and TRAP have no successor."
 unfoldable pub onward : List ℕ → Program → Module → ℕ → ℕ → ℕ → ℕ → ℕ → ℕ → Flow

@@ -1,11 +1,11 @@
 -- What is true of every image that is read without a refusal: its modules lie in it one behind another, their records are in range, and
 -- their data lie in the store one behind another. Proved in proofs/Reader.antt; the functions above the reader ask for it.
-use Prim.Native.Nat.{ℕ, _+_, _*_, _≤_, _<_}
+use Prim.Native.Nat.{ℕ, _+_, _*_, _/_, _%_, _≤_, _<_}
 use mathlib.Core.Path.{_≡_}
 use mathlib.Core.List.{List}
 use lib.ListN.{length, getD}
 use Rattle.mcode.specs.Word.{byte}
-use Rattle.mcode.specs.Image.{firstModule, mostModules, noModule, parse, moduleOf, procCount, entryOf, paramsOf, resultsOf}
+use Rattle.mcode.specs.Image.{firstModule, mostModules, noModule, parse, moduleOf, beginOf, procCount, entryOf, paramsOf, resultsOf}
 use Rattle.mcode.specs.declared.Module.{Module}
 use Rattle.mcode.specs.declared.Program.{Program}
 
@@ -23,6 +23,14 @@ pub record Sound (image : List ℕ) (m : Module) : Type 0 where
   pub params : (i : ℕ) → i < procCount m → paramsOf image m i ≤ 16
   pub results : (i : ℕ) → i < procCount m → resultsOf image m i ≤ 4
 
+-- how a module lies in the image from `at` on, where its bit map is: the fields whose bits stand, the code length, the records, the code
+pub record Spelt (bits at : ℕ) (m : Module) : Type 0 where
+  pub few : bits < 8
+  pub table : m .table ≡ at + 3 + 2 * (bits % 2) + bits / 2 % 2 + 8 * (bits / 4 % 2)
+  pub code : m .code ≡ m .table + 4 * m .procs
+  pub unsized : bits % 2 ≡ 0 → m .size ≡ 0
+  pub unlisted : bits / 2 % 2 ≡ 0 → m .procs ≡ 0
+
 abbrev pub nth : List Module → ℕ → Module
 nth table j = getD table j noModule
 
@@ -33,6 +41,8 @@ pub record Laid (image : List ℕ) (table : List Module) (i at base : ℕ) : Typ
   pub apart : (j k : ℕ) → j < k → k < i → nth table j .code + nth table j .length ≤ nth table k .code
   pub below : (j : ℕ) → j < i → nth table j .base + 3 ≤ base
   pub rising : (j k : ℕ) → j < k → k < i → nth table j .base + 3 ≤ nth table k .base
+  pub begins : beginOf table i ≡ at
+  pub spelt : (j : ℕ) → j < i → Spelt (byte image (beginOf table j)) (beginOf table j) (nth table j)
 
 -- a program that was read from the image
 pub record Told (image : List ℕ) (program : Program) : Type 0 where
@@ -44,6 +54,12 @@ pub record Told (image : List ℕ) (program : Program) : Type 0 where
   pub high : firstModule ≤ program .end
   pub bare : paramsOf image (moduleOf program 0) 0 ≡ 0
   pub laid : Laid image (program .modules) (program .count) (length image) (program .end)
+
+-- a module lies in an image that is read as the reader tells it, with its bit map at `begin`
+pub record Lies (image : List ℕ) (begin : ℕ) (m : Module) : Type 0 where
+  pub brief : length image ≤ 65535
+  pub spelt : Spelt (byte image begin) begin m
+  pub sound : Sound image m
 
 unfoldable pub WellRead : Type 0
 WellRead = (image : List ℕ) → parse image .refusal ≡ 0 → Told image (parse image .program)

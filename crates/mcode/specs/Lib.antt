@@ -10,3 +10,5 @@ pub mod Step
 pub mod Run
 pub mod Demands
 pub mod Marked
+pub mod Archive
+pub mod ArchiveDemands

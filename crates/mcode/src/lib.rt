@@ -118,6 +118,12 @@ pub struct Verdict {
     pub pc: Position,
 }
 
+// What a call that fills an output slice answers: the number of the refusal, or 0, and the length written, 0 where it refuses.
+pub struct Delivered {
+    pub number: u16,
+    pub length: usize,
+}
+
 // What is wrong with an instruction, whatever the depth: nothing, its opcode is not listed, its operands lie outside the code, a module or
 // a procedure that it names is missing, or a successor lies outside the code.
 pub enum Cause {

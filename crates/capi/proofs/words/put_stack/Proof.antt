@@ -2,7 +2,7 @@ use mathlib.Core.Path.{_≡_, refl, sym, _∙_}
 use Prim.Native.Nat.{_+_, _-_, _≤_}
 use lib.ListN.{length, getD, drop, length-set}
 use Rattle.mcode.specs.Step.{written}
-use Rattle.loader.proofs.Bases.{next-written, none-written}
+use Rattle.mcode.proofs.Writes.{next-written, none-written}
 use native.Mathlib.Omega.{arith}
 use borrow.Author.Needs.{needs}
 use Rattle.capi.proofs.words.put_stack.Statement.{statement}

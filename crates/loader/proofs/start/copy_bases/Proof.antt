@@ -7,7 +7,8 @@ use native.Mathlib.Omega.{arith}
 use borrow.Author.Needs.{needs}
 use Rattle.mcode.specs.Image.{basesOf}
 use Rattle.mcode.specs.Step.{written}
-use Rattle.loader.proofs.Bases.{next-written, none-written, bases-long, base-at}
+use Rattle.mcode.proofs.Writes.{next-written, none-written}
+use Rattle.loader.proofs.Bases.{bases-long, base-at}
 use Rattle.loader.proofs.start.copy_bases.Statement.{statement}
 use Rattle.loader.proofs.start.copy_bases.Tie as tie
 use Rattle.loader.proofs.start.copy_bases.Reads as reads

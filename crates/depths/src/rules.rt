@@ -114,7 +114,7 @@ pub fn params_of(image: &[u8], m: Module, i: usize) -> u8
 }
 
 // The results of procedure i.
-fn results_of(image: &[u8], m: Module, i: usize) -> u8
+pub fn results_of(image: &[u8], m: Module, i: usize) -> u8
     requires { ⌜ (i < 65536) × (m .table ≤ 65535) ⌝ }
     ensures { λ r. ⌜ r ≡ resultsOf (now (image .entry)) m i ⌝ }
 {

@@ -11,7 +11,7 @@ ghost use lib.ListN.{length};
 ghost use Rattle.mcode.specs.Depths.{KeptPast};
 ghost use Rattle.mcode.specs.Layout.{Told};
 ghost use Rattle.mcode.specs.Run.{verdict, faultAt, Loads};
-ghost use Rattle.loader.specs.Load.{Checked, Walked, Refused};
+ghost use Rattle.loader.specs.Load.{Checked, Walked, Refused, LoadsProgram};
 
 // Hands the depth check each module's part of the map, to be filled there. False where one module has no depths.
 fn check_all(image: &[u8], program: Program, map: &mut [u32], work: &mut [u16]) -> bool
@@ -121,6 +121,22 @@ fn refused(image: &[u8], program: Program, map: &mut [u32], work: &mut [u16]) ->
     v
 }
 
+// Load of an image that was read to this program: 7, 13 or 8, or 0. With 13 or 8 the map is unmarked over the image's length, and 7 leaves
+// it as it was.
+pub fn load_program(image: &[u8], program: Program, map: &mut [u32]) -> Verdict
+    requires { ⌜ Told (now image) program ⌝ }
+    ensures { λ r. ⌜ LoadsProgram (now (image .entry)) program (now (map .entry)) r (now (map .exit)) ⌝ }
+{
+    if map.len() < image.len() {
+        return answer(7);
+    }
+    let mut work = [0u16; 32767];
+    if check_all(image, program, map, &mut work) {
+        return answer(0);
+    }
+    refused(image, program, map, &mut work)
+}
+
 // The number of the refusal, 1 to 8 or 13, or 0; the module and the position at fault with 13. With 13 or 8 the map is
 // unmarked over the image's length, and every other refusal leaves it as it was.
 pub fn load(image: &[u8], map: &mut [u32]) -> Verdict
@@ -131,13 +147,6 @@ pub fn load(image: &[u8], map: &mut [u32]) -> Verdict
     if 1 <= refusal {
         return answer(refusal);
     }
-    if map.len() < image.len() {
-        return answer(7);
-    }
     let program = parsed.program;
-    let mut work = [0u16; 32767];
-    if check_all(image, program, map, &mut work) {
-        return answer(0);
-    }
-    refused(image, program, map, &mut work)
+    load_program(image, program, map)
 }

@@ -1,10 +1,6 @@
--- The answer of load is the one that the rules determine, from the answers of the reader, of the check and of the walk.
-use Prim.Native.Nat.{ℕ}
-use lib.ListN.{length-replicate}
-use Rattle.loader.proofs.Answers.{refused-so, short-so, accepted-so, none-so}
+-- The answer of load is the one that the rules determine, from the answers of the reader and of the load of a program.
+use Rattle.loader.proofs.Answers.{refused-so, read-so}
 use Rattle.loader.proofs.Begin.{read-told}
-use Rattle.loader.proofs.Fill.{kept-trans}
-use native.Mathlib.Omega.{arith}
 use borrow.Author.Needs.{needs}
 use Rattle.loader.proofs.load.load.Statement.{statement}
 use Rattle.loader.proofs.load.load.Tie as tie
@@ -18,43 +14,14 @@ answer-requires c κs = search needs
 returns : tie.Need-returns
 returns c = refused-so _ _ _ (c .before .before .read-image .ensures) _ (c .before .if1 .taken) (c .answer .ensures)
 
-answer-requires-2 : tie.Need-answer-requires-2
-answer-requires-2 c κs = search needs
-
-returns-2 : tie.Need-returns-2
-returns-2 c = short-so _ _ _ (c .before .before .before .read-image .ensures) _ (c .before .before .if1 .left) (c .before .if2 .taken) (c .answer2 .ensures)
-
-slice-aggregate-check-all : tie.Need-slice-aggregate-check-all
-slice-aggregate-check-all c = search needs
-
-check-all-requires : tie.Need-check-all-requires
-check-all-requires c κs = (read-told _ _ (c .before .before .before .before .before .read-image .ensures) (c .before .before .before .before .if1 .left), (c .before .before .before .if2 .left, omega (arith, length-replicate {A = ℕ} 32767 0)))
-
-answer-requires-3 : tie.Need-answer-requires-3
-answer-requires-3 c κs = search needs
+load-program-requires : tie.Need-load-program-requires
+load-program-requires c κs = read-told _ _ (c .before .before .before .read-image .ensures) (c .before .before .if1 .left)
 
 same-length : tie.Need-same-length
 same-length c = search needs
 
-returns-3 : tie.Need-returns-3
-returns-3 c = accepted-so _ _ _ (c .before .before .before .before .before .before .before .before .before .before .before .read-image .ensures) _ (c .before .before .before .before .before .before .before .before .before .before .if1 .left) (c .before .before .before .before .before .before .before .before .before .if2 .left) _ (c .answer3 .ensures) (rw (c .before .if3 .taken) at (c .before .before .before .before .before .check-all .ensures))
-
-slice-aggregate-refused : tie.Need-slice-aggregate-refused
-slice-aggregate-refused c = search needs
-
-refused-requires : tie.Need-refused-requires
-refused-requires c κs =
-    let K = (rw (c .before .before .if3 .left) at (c .before .before .before .before .before .before .check-all .ensures)) .1 in
-    (read-told _ _ (c .before .before .before .before .before .before .before .before .before .before .before .before .read-image .ensures) (c .before .before .before .before .before .before .before .before .before .before .before .if1 .left), (omega (arith, c .before .before .before .before .before .before .before .before .before .before .if2 .left, K .long), omega (arith, length-replicate {A = ℕ} 32767 0, c .before .before .before .before .before .before .check-all .kept .1 .1 .0)))
-
-same-length-2 : tie.Need-same-length-2
-same-length-2 c = search needs
-
-returns-4 : tie.Need-returns-4
-returns-4 c =
-    let (N, K) = rw (c .before .before .before .before .before .before .if3 .left) at (c .before .before .before .before .before .before .before .before .before .before .check-all .ensures) in
-    let R = c .before .before .before .refused .ensures in
-    none-so _ _ _ (c .before .before .before .before .before .before .before .before .before .before .before .before .before .before .before .before .read-image .ensures) _ (c .before .before .before .before .before .before .before .before .before .before .before .before .before .before .before .if1 .left) (c .before .before .before .before .before .before .before .before .before .before .before .before .before .before .if2 .left) _ N (R .0, record { blank = R .1 .blank; kept = kept-trans _ _ _ _ K (R .1 .kept) })
+returns-2 : tie.Need-returns-2
+returns-2 c = read-so _ _ _ (c .before .before .before .before .before .before .read-image .ensures) _ (c .before .before .before .before .before .if1 .left) _ (c .before .before .load-program .ensures)
 
 pub load-spec : {M : Type 1} → statement M
 load-spec =
@@ -63,14 +30,6 @@ load-spec =
     read-image-requires
     answer-requires
     returns
-    answer-requires-2
-    returns-2
-    slice-aggregate-check-all
-    check-all-requires
-    answer-requires-3
+    load-program-requires
     same-length
-    returns-3
-    slice-aggregate-refused
-    refused-requires
-    same-length-2
-    returns-4)
+    returns-2)

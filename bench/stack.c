@@ -12,9 +12,12 @@
 #define MOST_ENTRIES 65535
 #define WORDS 4096
 #define STEPS 100000
+#define CALLS 4
 
 static uint8_t image[MOST_BYTES];
 static uint32_t map[MOST_ENTRIES];
+static uint8_t out[MOST_BYTES];
+static uint32_t written[CEMBUXOLA_WRITTEN_NUMBERS];
 static uint16_t place[CEMBUXOLA_PLACE_WORDS], store[WORDS], machine[CEMBUXOLA_MACHINE_WORDS], outputs[CEMBUXOLA_CHANNELS];
 static const uint16_t inputs[CEMBUXOLA_CHANNELS];
 static uint32_t answer[CEMBUXOLA_ANSWER_NUMBERS];
@@ -27,6 +30,11 @@ static void none(void)
 static void load(void)
 {
     cembuxola_load(image, length, map, MOST_ENTRIES, place, CEMBUXOLA_PLACE_WORDS);
+}
+
+static void archive(void)
+{
+    cembuxola_archive(image, length, map, MOST_ENTRIES, out, MOST_BYTES, written, CEMBUXOLA_WRITTEN_NUMBERS);
 }
 
 static void start(void)
@@ -69,8 +77,8 @@ int main(int count, char **arguments)
     static const struct {
         const char *name;
         void (*call)(void);
-    } calls[] = {{"load", load}, {"start", start}, {"run", run}};
-    size_t most[3] = {0};
+    } calls[CALLS] = {{"load", load}, {"archive", archive}, {"start", start}, {"run", run}};
+    size_t most[CALLS] = {0};
     size_t empty = taken(none);
     for (int i = 1; i < count; i++) {
         FILE *file = fopen(arguments[i], "rb");
@@ -80,13 +88,13 @@ int main(int count, char **arguments)
         }
         length = fread(image, 1, MOST_BYTES, file);
         fclose(file);
-        for (int k = 0; k < 3; k++) {
+        for (int k = 0; k < CALLS; k++) {
             size_t bytes = taken(calls[k].call) - empty;
             if (most[k] < bytes)
                 most[k] = bytes;
         }
     }
-    for (int k = 0; k < 3; k++)
+    for (int k = 0; k < CALLS; k++)
         printf("stack of %-15s %6zu bytes\n", calls[k].name, most[k]);
     return 0;
 }

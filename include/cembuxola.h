@@ -2,10 +2,10 @@
  *
  * Link with target/staticlib/libcapi.a, which `rt staticlib capi` writes (x86-64). The functions allocate nothing, keep nothing
  * between calls and write only to the buffers named below, so any number of machines may run side by side, in threads too.
- * Of the stack, load takes about 74 KB, start 5 KB and run 7 KB (measured: bench/size, docs/PERFORMANCE.md).
+ * Of the stack, load takes about 71 KB, archive 72 KB, start 5 KB and run 7 KB (measured: bench/size, docs/PERFORMANCE.md).
  *
- * Each buffer passes as a pointer, then its length in ELEMENTS: bytes of an image, entries of a map, words of a place, a store, a machine,
- * inputs or outputs, numbers of an answer. The caller keeps these rules, which no function can test:
+ * Each buffer passes as a pointer, then its length in ELEMENTS: bytes of an image or a form, entries of a map, words of a place, a store, a
+ * machine, inputs or outputs, numbers of an answer or of what is written. The caller keeps these rules, which no function can test:
  *   - a pointer is not NULL, also where the length is 0, is aligned for its elements (a map's as a uint32_t), and that many elements stand
  *     there;
  *   - a buffer that a function writes overlaps no other buffer of the call, and nobody else reads or writes it meanwhile;
@@ -26,6 +26,11 @@
  *   word 0      module, the first one that is not whole
  *   word 1      position, the lowest one at fault in that module's code, in bytes
  * Both are 0 in every answer but 13.
+ *
+ * The archive form of an image that load accepts is the image of the same modules whose bits stand only for a data size other than 0,
+ * procedures other than the single default one, and a name other than zeros. The single default one is a list of exactly one procedure,
+ * entry 0, no parameters, no results, spelled out or not. The form is never longer than the image, loads with the same modules, and is its
+ * own form. Two images have the same form exactly when their modules are equal in order: data size, procedures, name and code.
  *
  * The machine is CEMBUXOLA_MACHINE_WORDS words:
  *   word 0      module, where the machine stands
@@ -80,16 +85,18 @@ extern "C" {
 #define CEMBUXOLA_PLACE_WORDS 2
 #define CEMBUXOLA_MACHINE_WORDS 24
 #define CEMBUXOLA_ANSWER_NUMBERS 4
+#define CEMBUXOLA_WRITTEN_NUMBERS 1
 /* The most modules of an image. */
 #define CEMBUXOLA_MOST_MODULES 21
 /* The inputs and the outputs of a run. */
 #define CEMBUXOLA_CHANNELS 16
 
-/* What load and start answer where they accept. */
+/* What load, archive and start answer where they accept. */
 #define CEMBUXOLA_ACCEPTED 0
 
-/* Refusals. Load, start and run each read the image first, so any of them may answer 1 to 6. Of those that hold, the first in this
- * order is answered: 1, 2, then 3, 5 and 6 as the image is read, 4; then load 7, 13, 8; start 9; run 7, 12, 9, 10, 11. */
+/* Refusals. Load, archive, start and run each read the image first, so any of them may answer 1 to 6. Of those that hold, the first in
+ * this order is answered: 1, 2, then 3, 5 and 6 as the image is read, 4; then load 7, 13, 8; archive 7, 13, 8, 14; start 9; run 7, 12, 9,
+ * 10, 11. */
 enum {
     CEMBUXOLA_IMAGE_SIZE = 1,     /* the image has 0 or over 65,535 bytes */
     CEMBUXOLA_MODULE_COUNT = 2,   /* the module count is 0 or over CEMBUXOLA_MOST_MODULES */
@@ -106,7 +113,9 @@ enum {
     CEMBUXOLA_NOT_WHOLE = 13,     /* the code is not whole: a position reached from the entries without regard to depth has an
                                    * unlisted opcode, operands outside the code, a missing module or procedure, or a successor
                                    * outside the code */
-    CEMBUXOLA_WRONG_LENGTH = 20   /* the place is not 2 words, the machine not 24, or the answer not 4 numbers; tested before all else */
+    CEMBUXOLA_OUTPUT_SHORT = 14,  /* out is shorter than the form */
+    CEMBUXOLA_WRONG_LENGTH = 20   /* the place is not 2 words, the machine not 24, the answer not 4 numbers, or written not 1 number;
+                                   * tested before all else */
 };
 
 /* Stops. A trap and an end leave everything as it was before their instruction, at which the machine stands; so does a line whose
@@ -133,6 +142,16 @@ enum {
  *   place  CEMBUXOLA_PLACE_WORDS words, written: module and position at 13, else 0 and 0. 20 leaves them as they were. */
 uint16_t cembuxola_load(const uint8_t *image, size_t image_length, uint32_t *map, size_t map_length, uint16_t *place,
                         size_t place_length);
+
+/* Writes the archive form of an image. Answers 0, or a refusal 1 to 8, 13, 14 or 20: load's first, in load's order, without a place for 13.
+ *   image    read
+ *   map      as many entries as the image has bytes, or more. It is left exactly as load leaves it, filled at 0 and at 14. 20 leaves it as
+ *            it was.
+ *   out      0: the form's bytes, and all past them as it was. Every refusal leaves all of it as it was. As many bytes as the image has
+ *            always suffice. It must not overlap the image.
+ *   written  CEMBUXOLA_WRITTEN_NUMBERS number, written: the form's length at 0, else 0. 20 leaves it as it was. */
+uint16_t cembuxola_archive(const uint8_t *image, size_t image_length, uint32_t *map, size_t map_length, uint8_t *out, size_t out_length,
+                           uint32_t *written, size_t written_length);
 
 /* Clears the store and makes the machine that stands at procedure 0 of module 0. Answers 0, or a refusal 1 to 6, 9 or 20.
  *   image    read

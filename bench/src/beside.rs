@@ -7,7 +7,7 @@ use crate::mixed;
 use crate::sides::Compared;
 use crate::speed::{line, INPUTS, WORDS};
 use cembuxola::c::Library;
-use cembuxola::{ANSWER_NUMBERS, MACHINE_WORDS, PLACE_WORDS};
+use cembuxola::{ANSWER_NUMBERS, MACHINE_WORDS, PLACE_WORDS, WRITTEN_NUMBERS};
 use std::ffi::{c_char, c_int, c_void, CStr, CString};
 use std::time::Instant;
 
@@ -51,6 +51,7 @@ struct Begun<'a> {
     build: &'a Build,
     image: &'a [u8],
     map: Vec<u32>,
+    form: Vec<u8>,
     words: Vec<u16>,
     at: usize,
     outputs: [u16; 16],
@@ -61,7 +62,7 @@ struct Begun<'a> {
 ///
 /// A library from before A.3 takes no place, one from before A.7 no requests: on x86-64 a C function ignores further arguments. The map of one
 /// from before A.5 has a byte where it has an entry now, so the first bytes of the same buffer are enough. One from before A.9 answers no word of
-/// channels, and is lent an answer of fewer numbers.
+/// channels, and is lent an answer of fewer numbers. One from before A.11 has no archive.
 fn open(path: &str) -> Compared<Build> {
     let name = CString::new(path).map_err(|error| error.to_string())?;
     // SAFETY: a path, and the names of functions, as C strings.
@@ -69,15 +70,17 @@ fn open(path: &str) -> Compared<Build> {
     if object.is_null() {
         return Err(format!("{path} cannot be opened"));
     }
-    let function = |name: &CStr| match unsafe { dlsym(object, name.as_ptr()) } {
+    let optional = |name: &CStr| unsafe { dlsym(object, name.as_ptr()) };
+    let function = |name: &CStr| match optional(name) {
         found if found.is_null() => Err(format!("{path} has no {name:?}")),
         found => Ok(found),
     };
     let load = function(c"cembuxola_load")?;
+    let archive = optional(c"cembuxola_archive");
     let start = function(c"cembuxola_start")?;
     let run = function(c"cembuxola_run")?;
     // SAFETY: the functions are as include/cembuxola.h declares them, or take less, as said above; the object stays open.
-    let library = unsafe { Library::at(load, start, run) };
+    let library = unsafe { Library::at(load, archive, start, run) };
     let numbers = answer_numbers(&library)
         .ok_or_else(|| format!("{path}: run takes no answer of 2, 3 or 4 numbers"))?;
     Ok(Build { library, numbers })
@@ -111,6 +114,7 @@ impl<'a> Begun<'a> {
             build,
             image,
             map: vec![0; image.len()],
+            form: vec![0; image.len()],
             words,
             at,
             outputs: [0; 16],
@@ -140,6 +144,13 @@ impl<'a> Begun<'a> {
         self.build
             .library
             .load(self.image, &mut self.map, &mut place)
+    }
+
+    fn archive(&mut self) -> u16 {
+        let mut written = [0; WRITTEN_NUMBERS];
+        self.build
+            .library
+            .archive(self.image, &mut self.map, &mut self.form, &mut written)
     }
 
     fn start(&mut self) -> u16 {
@@ -178,6 +189,7 @@ enum Kind {
     Lines,
     Traps,
     Load,
+    Archive,
     Refused,
     Tests,
 }
@@ -200,6 +212,7 @@ impl Kind {
             Kind::Steps | Kind::Traps => (begun.run(STEPS, requests), &[30]),
             Kind::Lines => (begun.runs(LINE_RUNS, LINE_STEPS, requests), &[30]),
             Kind::Load => (begun.load(), &[0]),
+            Kind::Archive => (begun.archive(), &[0]),
             Kind::Refused => (begun.load(), &[8, 13]),
             Kind::Tests => (begun.run(0, requests), &[30]),
         };
@@ -217,7 +230,7 @@ impl Kind {
             Kind::Steps => ("ns/step", 1e9 / f64::from(STEPS)),
             Kind::Lines => ("ns/line", 1e9 / f64::from(LINE_RUNS * LINES_A_RUN)),
             Kind::Traps => ("ns/trap", 1e9 / f64::from(STEPS / TRAP_STEPS)),
-            Kind::Load | Kind::Refused | Kind::Tests => ("us", 1e6),
+            Kind::Load | Kind::Archive | Kind::Refused | Kind::Tests => ("us", 1e6),
         }
     }
 }
@@ -282,8 +295,8 @@ fn long_works(title: &str, kind: Kind, images: Vec<Long>) -> impl Iterator<Item 
 }
 
 /// All works: the short loops, the mixed programs of several seeds, runs with requests, runs that catch traps, load, also of what it refuses,
-/// and the test of a map.
-fn works() -> Vec<Work> {
+/// the test of a map, and archive, if both builds have it.
+fn works(with_archive: bool) -> Vec<Work> {
     let mut all = Vec::new();
     for program in images::loops() {
         all.push(Work::new(program.name, Kind::Steps, program));
@@ -310,6 +323,10 @@ fn works() -> Vec<Work> {
     ] {
         all.extend(long_works(title, kind, images));
     }
+    if with_archive {
+        let images = images::archive_images();
+        all.extend(long_works("archive", Kind::Archive, images));
+    }
     all
 }
 
@@ -334,7 +351,11 @@ pub fn beside(folder: &str, passes: u64) -> Compared<()> {
         builds.push([a?, b?, c?, d?]);
     }
     let builds: [[Build; PLACES.len()]; 2] = builds.try_into().map_err(|_| "two builds")?;
-    let mut works = works();
+    let with_archive = builds
+        .iter()
+        .flatten()
+        .all(|build| build.library.has_archive());
+    let mut works = works(with_archive);
     for _ in 0..passes {
         for work in &mut works {
             work.turn(&builds)

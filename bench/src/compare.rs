@@ -1,11 +1,14 @@
-//! Freshly generated cases on both sides: load, start and the list of runs, with all buffers and machines compared after each call.
+//! Freshly generated cases on both sides: load, archive, start and the list of runs, with all buffers and machines compared after each
+//! call; and the archive forms there and back.
 
+use crate::forms::Forms;
 use crate::sides::{Compared, Sides};
 use crate::words::words;
 use cembuxola::c::LINKED as ENGINE;
-use cembuxola::{ANSWER_NUMBERS, MACHINE_WORDS, PLACE_WORDS};
+use cembuxola::{ANSWER_NUMBERS, MACHINE_WORDS, PLACE_WORDS, WRITTEN_NUMBERS};
 use second::case::Case;
 use second::gen;
+use second::gen::rng::Rng;
 use std::collections::BTreeMap;
 
 /// What was compared.
@@ -18,12 +21,27 @@ pub struct Total {
     pub lines: u64,
     /// The runs that read an input.
     pub reading: u64,
-    /// How often each number was answered by load, and by a run.
+    pub forms: Forms,
+    /// How often each number was answered by load, by archive, and by a run.
     pub loads: BTreeMap<u16, u64>,
+    pub archives: BTreeMap<u16, u64>,
     pub numbers: BTreeMap<u16, u64>,
 }
 
+/// So many cases have forms that are shorter than their images.
+const LARGE: u64 = 1_000;
+
 impl Total {
+    /// Archive on both sides, with maps as load is lent them, and the image's form there and back.
+    fn archive(&mut self, case: &Case, rng: &mut Rng) -> Compared<()> {
+        let map = vec![case.map_fill; case.map_length];
+        let mut sides = Sides::new(&case.image, map, Vec::new(), Vec::new());
+        let output = vec![case.output_fill; case.output_length];
+        wrong_written(&sides, &output)?;
+        *self.archives.entry(sides.archive(&output)?).or_default() += 1;
+        self.forms.there_and_back(&case.image, rng)
+    }
+
     fn case(&mut self, case: &Case) -> Compared<()> {
         let mut sides = Sides::new(
             &case.image,
@@ -67,6 +85,23 @@ impl Total {
         self.cases += 1;
         Ok(())
     }
+}
+
+/// Another length of what is written is answered with 20, and nothing is changed.
+fn wrong_written(sides: &Sides, output: &[u8]) -> Compared<()> {
+    for numbers in [0, WRITTEN_NUMBERS + 1] {
+        let (mut map, mut out) = (sides.ours.map.clone(), output.to_vec());
+        let mut written = vec![7; numbers];
+        let number = ENGINE.archive(&sides.image, &mut map, &mut out, &mut written);
+        let kept =
+            map == sides.ours.map && out == output && written.iter().all(|&number| number == 7);
+        if number != 20 || !kept {
+            return Err(format!(
+                "archive with {numbers} numbers to write: answered {number}, all kept: {kept}"
+            ));
+        }
+    }
+    Ok(())
 }
 
 /// A place of a wrong length is answered with 20, and nothing is changed.
@@ -166,9 +201,23 @@ fn generated(seed: u64, index: u64) -> Case {
 pub fn compare(count: u64, seed: u64) -> Compared<Total> {
     let mut total = Total::default();
     for index in 0..count {
+        let case = generated(seed, index);
+        // other numbers than those that made the case
+        let rng = &mut Rng::for_case(!seed, index);
         total
-            .case(&generated(seed, index))
+            .archive(&case, rng)
+            .and_then(|()| total.case(&case))
             .map_err(|error| format!("case {index} of seed {seed}: {error}"))?;
+    }
+    let Forms {
+        compared,
+        shorter,
+        spelled,
+    } = total.forms;
+    if count >= LARGE && (shorter == 0 || spelled == 0) {
+        return Err(format!(
+            "of {count} cases {compared} have forms, {shorter} of them shorter than the image, and {spelled} were spelled out"
+        ));
     }
     Ok(total)
 }

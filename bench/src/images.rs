@@ -1,7 +1,8 @@
 //! Images to time: loops that run until their budget is spent, and long images. Octal literals are the paper's opcodes.
 
+use crate::writer;
 use second::assemble::{encode, Source};
-use second::image::Procedure;
+use second::image::{Procedure, MOST_MODULES, ONLY_PROCEDURE};
 use second::request::{self, HELD, LINES};
 
 /// A program that runs on for ever, with words to write into its store and into M after start, the requests of each of its runs, and the word of
@@ -23,7 +24,7 @@ pub struct Requests {
     pub left: u16,
 }
 
-/// An image whose load is timed, and what load answers.
+/// An image whose load or archive is timed, and what load answers.
 pub struct Long {
     pub name: &'static str,
     pub image: Vec<u8>,
@@ -579,6 +580,58 @@ pub fn long_images() -> Vec<Long> {
         twice(backward_jumps(LONG)),
         twice(forks(LONG)),
     ]
+}
+
+/// The longest image there can be, of two modules that end at once: next to nothing of its code is reached, so that load takes as little
+/// as it can.
+fn longest_code() -> Vec<u8> {
+    const MOST_CODE: usize = 32_767;
+    let module = |length: usize| Source::plain(&vec![0o354; length]);
+    encode(&[module(MOST_CODE), module(65_535 - 1 - 3 - MOST_CODE - 3)])
+}
+
+/// The most modules, each of them ends at once, with these procedures.
+fn most_modules(procedures: usize) -> Vec<u8> {
+    let module = Source {
+        procedures: vec![ONLY_PROCEDURE; procedures],
+        ..Source::plain(&[0o354])
+    };
+    encode(&vec![module; MOST_MODULES])
+}
+
+/// The same image with all fields spelled out that the archive form leaves out.
+fn spelled(image: &[u8]) -> Vec<u8> {
+    let modules = writer::parse(image).into_iter();
+    let spelled: Vec<writer::Module> = modules.map(|module| module.spelled(|| true)).collect();
+    writer::encode(&spelled)
+}
+
+/// Two modules of calls in expressions, with names: as long as an example is.
+fn named_calls() -> Vec<u8> {
+    let body: Vec<u8> = (1..=4).flat_map(nested_calls).collect();
+    let module = Source {
+        name: Some(*b"cabinet7"),
+        ..with_function(repeated(&body.repeat(2)))
+    };
+    let image = encode(&[module.clone(), module]);
+    assert_eq!(image.len(), 291);
+    image
+}
+
+/// Images whose archive form is timed: the longest code, the most modules, and a short one.
+pub fn archive_images() -> Vec<Long> {
+    let named = [
+        ("longest code", longest_code()),
+        ("21, all spelled out", spelled(&most_modules(0))),
+        ("21 x 255 procedures", most_modules(255)),
+        ("example, 291 bytes", named_calls()),
+    ];
+    let long = |(name, image)| Long {
+        name,
+        image,
+        number: 0,
+    };
+    named.map(long).into()
 }
 
 /// Two modules of a shape, the second with another instruction where it ends.

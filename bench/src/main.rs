@@ -3,11 +3,13 @@
 
 mod beside;
 mod compare;
+mod forms;
 mod images;
 mod mixed;
 mod sides;
 mod speed;
 mod words;
+mod writer;
 
 use std::process::ExitCode;
 
@@ -21,11 +23,22 @@ fn number(text: &str) -> Result<u64, String> {
 fn compare(count: &str, seed: &str) -> Result<(), String> {
     let total = compare::compare(number(count)?, number(seed)?)?;
     println!(
-        "{} cases, {} runs, {} steps, {} lines taken, {} runs with channels: no difference",
-        total.cases, total.runs, total.steps, total.lines, total.reading
+        "{} cases, {} runs, {} steps, {} lines taken, {} runs with channels, {} archive forms, {} shorter than their images, {} spelled out \
+         again: no difference",
+        total.cases,
+        total.runs,
+        total.steps,
+        total.lines,
+        total.reading,
+        total.forms.compared,
+        total.forms.shorter,
+        total.forms.spelled
     );
     for (number, times) in &total.loads {
         println!("load answered {number:2}: {times}");
+    }
+    for (number, times) in &total.archives {
+        println!("archive answered {number:2}: {times}");
     }
     for (number, times) in &total.numbers {
         println!("run answered {number:2}: {times}");

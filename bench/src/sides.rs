@@ -2,7 +2,7 @@
 
 use crate::words::words;
 use cembuxola::c::LINKED as ENGINE;
-use cembuxola::{ANSWER_NUMBERS, MACHINE_WORDS, PLACE_WORDS};
+use cembuxola::{ANSWER_NUMBERS, MACHINE_WORDS, PLACE_WORDS, WRITTEN_NUMBERS};
 use second::api::Buffers;
 use second::Machine;
 
@@ -99,6 +99,18 @@ impl Sides {
         Ok(number)
     }
 
+    /// With an output of its own on each side, which holds this before.
+    pub fn archive(&mut self, output: &[u8]) -> Compared<u16> {
+        let [mut ours, mut theirs] = [output.to_vec(), output.to_vec()];
+        let (number, length) = self.ours.archive(&self.image, &mut ours);
+        let (other, other_length) = self.theirs.archive(&self.image, &mut theirs);
+        same("archive", number, u16::from(other))?;
+        same("the form's length", length as usize, other_length)?;
+        same_list("the output", &ours, &theirs)?;
+        self.compare()?;
+        Ok(number)
+    }
+
     pub fn start(&mut self) -> Compared<u16> {
         // every word is written, whatever stood there
         self.ours.machine = [0xABCD; MACHINE_WORDS];
@@ -138,6 +150,15 @@ impl Ours {
         (number, place)
     }
 
+    /// The number and the length.
+    pub fn archive(&mut self, image: &[u8], out: &mut [u8]) -> (u16, u32) {
+        // the number is written, whatever stood there
+        let mut written = [0xABCD_EF01; WRITTEN_NUMBERS];
+        let number = ENGINE.archive(image, &mut self.map, out, &mut written);
+        let [length] = written;
+        (number, length)
+    }
+
     pub fn run(
         &mut self,
         image: &[u8],
@@ -171,6 +192,12 @@ impl Ours {
 impl Theirs {
     pub fn load(&mut self, image: &[u8]) -> second::LoadAnswer {
         second::load(image, &mut self.map)
+    }
+
+    /// The number and the length.
+    pub fn archive(&mut self, image: &[u8], output: &mut [u8]) -> (u8, usize) {
+        let answer = second::api::archive(image, &mut self.map, output);
+        (answer.number, answer.length)
     }
 
     pub fn run(

@@ -2,8 +2,11 @@
 
 use crate::images::{self, Long, Loop, LINES_A_RUN, LINE_STEPS, LONG, TRAP_STEPS};
 use crate::mixed;
-use crate::sides::{Compared, Sides};
+use crate::sides::{Compared, Ours, Sides};
 use crate::words::words;
+use crate::writer;
+use std::cell::RefCell;
+use std::hint::black_box;
 use std::time::Instant;
 
 pub const WORDS: usize = 4_096;
@@ -13,18 +16,20 @@ const STEPS: u32 = 1_000_000;
 /// Runs with lines that are taken, in one timed work.
 const LINE_RUNS: u32 = 2_000;
 const ROUNDS: u32 = 40;
+/// Bytes of images that are archived in one timed work, some more or less, and the rounds: short works and many rounds, since of two times
+/// the difference is wanted.
+const ARCHIVED: usize = 100_000;
+const ARCHIVE_ROUNDS: u32 = 1_000;
 
-/// The least times in seconds of two works, done in turn.
-fn least_times(mut ours: impl FnMut(), mut theirs: impl FnMut()) -> [f64; 2] {
-    fn time(work: &mut impl FnMut()) -> f64 {
-        let begin = Instant::now();
-        work();
-        begin.elapsed().as_secs_f64()
-    }
-    let mut least = [f64::INFINITY; 2];
-    for _ in 0..ROUNDS {
-        least[0] = least[0].min(time(&mut ours));
-        least[1] = least[1].min(time(&mut theirs));
+/// The least times in seconds of works, done in turn, so many rounds.
+fn least_times<const N: usize>(rounds: u32, mut works: [&mut dyn FnMut(); N]) -> [f64; N] {
+    let mut least = [f64::INFINITY; N];
+    for _ in 0..rounds {
+        for (least, work) in least.iter_mut().zip(&mut works) {
+            let begin = Instant::now();
+            work();
+            *least = least.min(begin.elapsed().as_secs_f64());
+        }
     }
     least
 }
@@ -75,8 +80,13 @@ fn time_runs(sides: &mut Sides, one: &Loop, n: u32, runs: u32) -> Compared<[f64;
         theirs,
     } = sides;
     Ok(least_times(
-        || (0..runs).for_each(|_| assert_eq!(ours.run(image, &INPUTS, n, given).0, 30)),
-        || (0..runs).for_each(|_| assert_eq!(theirs.run(image, &INPUTS, n, given).number, 30)),
+        ROUNDS,
+        [
+            &mut || (0..runs).for_each(|_| assert_eq!(ours.run(image, &INPUTS, n, given).0, 30)),
+            &mut || {
+                (0..runs).for_each(|_| assert_eq!(theirs.run(image, &INPUTS, n, given).number, 30))
+            },
+        ],
     ))
 }
 
@@ -134,11 +144,101 @@ fn time_load(one: &Long) -> Compared<()> {
         theirs,
     } = &mut sides;
     let times = least_times(
-        || assert_eq!(ours.load(image).0, number),
-        || assert_eq!(u16::from(theirs.load(image).number), number),
+        ROUNDS,
+        [&mut || assert_eq!(ours.load(image).0, number), &mut || {
+            assert_eq!(u16::from(theirs.load(image).number), number)
+        }],
     );
     let speed = times.map(|time| image.len() as f64 / time / 1e6);
     line(one.name, "MB/s", speed, times[0] / times[1]);
+    Ok(())
+}
+
+/// An image, and buffers that all sides write in turn: where they lie is the same for each.
+struct Archived<'a> {
+    image: &'a [u8],
+    lent: RefCell<Lent>,
+    /// How often it is archived in one timed work.
+    times: usize,
+}
+
+struct Lent {
+    ours: Ours,
+    out: Vec<u8>,
+}
+
+impl Archived<'_> {
+    /// The forms by both sides and by the plain writer are compared.
+    fn new(one: &Long) -> Compared<Archived<'_>> {
+        let image = &one.image;
+        let length = image.len();
+        let mut sides = Sides::new(image, vec![0; length], Vec::new(), Vec::new());
+        let number = sides.archive(&vec![0; length])?;
+        if number != 0 {
+            return Err(format!("archive answers {number}"));
+        }
+        let (mut map, mut out) = (vec![0; length], vec![0; length]);
+        let mut plain_out = out.clone();
+        let (_, written) = sides.ours.archive(image, &mut out);
+        let plain = writer::archive(image, &mut map, &mut plain_out);
+        if plain != (0, written as usize) || plain_out != out || map != sides.ours.map {
+            return Err("the plain writer writes another form".into());
+        }
+        let ours = sides.ours;
+        Ok(Archived {
+            image,
+            lent: RefCell::new(Lent { ours, out }),
+            times: ARCHIVED.div_ceil(length),
+        })
+    }
+
+    /// So many calls, each of which must be accepted.
+    fn each(&self, call: impl Fn(&mut Lent) -> bool) {
+        let lent = &mut self.lent.borrow_mut();
+        (0..self.times).for_each(|_| assert!(call(lent)));
+    }
+}
+
+/// Archive, beside load of the second interpreter with the plain writer.
+fn time_archive(one: &Long) -> Compared<()> {
+    let archived = Archived::new(one)?;
+    let image = archived.image;
+    let least = least_times(
+        ARCHIVE_ROUNDS,
+        [
+            &mut || archived.each(|lent| lent.ours.archive(image, &mut lent.out).0 == 0),
+            &mut || {
+                archived
+                    .each(|lent| writer::archive(image, &mut lent.ours.map, &mut lent.out).0 == 0)
+            },
+        ],
+    );
+    let each = least.map(|time| time * 1e6 / archived.times as f64);
+    line(one.name, "us", each, each[0] / each[1]);
+    Ok(())
+}
+
+/// What archive takes more than load, beside the plain writer with the modules at hand.
+fn time_writing(one: &Long) -> Compared<()> {
+    let archived = Archived::new(one)?;
+    let image = archived.image;
+    let modules = writer::parse(image);
+    let least = least_times(
+        ARCHIVE_ROUNDS,
+        [
+            &mut || archived.each(|lent| lent.ours.archive(image, &mut lent.out).0 == 0),
+            &mut || archived.each(|lent| lent.ours.load(image).0 == 0),
+            &mut || {
+                archived.each(|lent| {
+                    let modules = black_box(&modules);
+                    writer::write_form(modules, &mut lent.out).is_some()
+                })
+            },
+        ],
+    );
+    let [archive, load, plain] = least.map(|time| time * 1e9 / archived.times as f64);
+    let more = archive - load;
+    line(one.name, "ns/image", [more, plain], more / plain);
     Ok(())
 }
 
@@ -204,6 +304,10 @@ pub fn speed() -> Compared<()> {
     time_each(&images::broken_images(LONG / 4), time_load)?;
     println!("load, refused with 8 where the code ends");
     time_each(&images::unfit_images(LONG), time_load)?;
+    println!("archive, beside load of the second interpreter and a plain Rust writer");
+    time_each(&images::archive_images(), time_archive)?;
+    println!("what archive takes more than load, beside that writer alone, with the modules read");
+    time_each(&images::archive_images(), time_writing)?;
     println!("run with n = 1: the tests of the image and the map");
     time_each(&long, time_tests)
 }

@@ -1,6 +1,6 @@
 //! The functions of include/cembuxola.h, over slices. They ask nothing of the lengths and contents: every one is answered with a number.
 
-use crate::{ANSWER_NUMBERS, MACHINE_WORDS, PLACE_WORDS};
+use crate::{ANSWER_NUMBERS, MACHINE_WORDS, PLACE_WORDS, WRITTEN_NUMBERS};
 use std::ffi::c_void;
 use std::mem::transmute;
 
@@ -12,6 +12,16 @@ extern "C" {
         map_length: usize,
         place: *mut u16,
         place_length: usize,
+    ) -> u16;
+    fn cembuxola_archive(
+        image: *const u8,
+        image_length: usize,
+        map: *mut u32,
+        map_length: usize,
+        out: *mut u8,
+        out_length: usize,
+        written: *mut u32,
+        written_length: usize,
     ) -> u16;
     fn cembuxola_start(
         image: *const u8,
@@ -42,6 +52,8 @@ extern "C" {
 }
 
 type Load = unsafe extern "C" fn(*const u8, usize, *mut u32, usize, *mut u16, usize) -> u16;
+type Archive =
+    unsafe extern "C" fn(*const u8, usize, *mut u32, usize, *mut u8, usize, *mut u32, usize) -> u16;
 type Start = unsafe extern "C" fn(*const u8, usize, *mut u16, usize, *mut u16, usize) -> u16;
 type Run = unsafe extern "C" fn(
     *mut u16,
@@ -66,6 +78,7 @@ type Run = unsafe extern "C" fn(
 #[derive(Clone, Copy, Debug)]
 pub struct Library {
     load: Load,
+    archive: Option<Archive>,
     start: Start,
     run: Run,
 }
@@ -73,18 +86,25 @@ pub struct Library {
 /// The build that is linked.
 pub const LINKED: Library = Library {
     load: cembuxola_load,
+    archive: Some(cembuxola_archive),
     start: cembuxola_start,
     run: cembuxola_run,
 };
 
 impl Library {
-    /// A build whose functions stand at these addresses.
+    /// A build whose functions stand at these addresses. One from before A.11 has no archive, which is null then.
     ///
     /// # Safety
     /// They are the functions of a build, stay there, and read and write no more of the buffers than include/cembuxola.h says.
-    pub unsafe fn at(load: *mut c_void, start: *mut c_void, run: *mut c_void) -> Library {
+    pub unsafe fn at(
+        load: *mut c_void,
+        archive: *mut c_void,
+        start: *mut c_void,
+        run: *mut c_void,
+    ) -> Library {
         Library {
             load: transmute::<*mut c_void, Load>(load),
+            archive: transmute::<*mut c_void, Option<Archive>>(archive),
             start: transmute::<*mut c_void, Start>(start),
             run: transmute::<*mut c_void, Run>(run),
         }
@@ -101,6 +121,35 @@ impl Library {
                 map.len(),
                 place.as_mut_ptr(),
                 place.len(),
+            )
+        }
+    }
+
+    /// Whether the build has archive; [`LINKED`] has.
+    pub fn has_archive(&self) -> bool {
+        self.archive.is_some()
+    }
+
+    /// Archive: 0, or a refusal 1 to 8, 13 or 14, or 20 where what is written has not [`WRITTEN_NUMBERS`] number. The build must have it.
+    pub fn archive(
+        &self,
+        image: &[u8],
+        map: &mut [u32],
+        out: &mut [u8],
+        written: &mut [u32],
+    ) -> u16 {
+        let archive = self.archive.expect("a build from before A.11");
+        // SAFETY: as in `load`.
+        unsafe {
+            archive(
+                image.as_ptr(),
+                image.len(),
+                map.as_mut_ptr(),
+                map.len(),
+                out.as_mut_ptr(),
+                out.len(),
+                written.as_mut_ptr(),
+                written.len(),
             )
         }
     }
@@ -159,4 +208,5 @@ impl Library {
     }
 }
 
-const _: () = assert!(PLACE_WORDS == 2 && MACHINE_WORDS == 24 && ANSWER_NUMBERS == 4);
+const _: () =
+    assert!(PLACE_WORDS == 2 && WRITTEN_NUMBERS == 1 && MACHINE_WORDS == 24 && ANSWER_NUMBERS == 4);

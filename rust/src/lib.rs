@@ -1,7 +1,7 @@
 //! A safe wrapper of the proved M-code engine's C library.
 //!
-//! [`load`], [`start`] and [`run`] are the engine's three calls over the caller's buffers. [`Cabinet`] keeps an accepted image with its
-//! map, store, outputs and machine, and only runs it.
+//! [`load`], [`archive`], [`start`] and [`run`] are the engine's four calls over the caller's buffers. [`Cabinet`] keeps an accepted image
+//! with its map, store, outputs and machine, and only runs it. [`archived`] is archive with buffers of its own.
 //!
 //! The numbers of the C functions become types: a [`Refusal`], or a [`Stop`]. What the calls answer, and what they leave in every
 //! buffer, is proved of the library; here only names are given to it. [`Mark::of`] reads the entries of a map.
@@ -17,6 +17,8 @@ use c::LINKED;
 
 /// The words of a load's place: module and position.
 pub const PLACE_WORDS: usize = 2;
+/// The numbers that archive writes: the length of the form.
+pub const WRITTEN_NUMBERS: usize = 1;
 /// The words of a machine.
 pub const MACHINE_WORDS: usize = 24;
 /// The numbers of a run's answer: count, code, the requests left and the channels read.
@@ -78,6 +80,29 @@ pub fn load(image: &[u8], map: &mut [u32]) -> Result<(), Refusal> {
     let mut place = [0; PLACE_WORDS];
     let number = LINKED.load(image, map, &mut place);
     Refusal::loaded(number, place)
+}
+
+/// Writes the archive form of an image, and answers its length; what stands past it in the output stays. The form is the image of the same
+/// modules whose bits stand only for a data size other than 0, procedures other than the single default one, and a name other than zeros:
+/// images with equal modules have the same form, and only those.
+///
+/// The map has as many entries as the image has bytes, or more, and is left as [`load`] leaves it. Load's refusals come first,
+/// [`Refusal::NotWhole`] without a place; then [`Refusal::OutputShort`]. An output as long as the image always suffices. A refusal leaves
+/// the output as it was.
+pub fn archive(image: &[u8], map: &mut [u32], out: &mut [u8]) -> Result<usize, Refusal> {
+    let mut written = [0; WRITTEN_NUMBERS];
+    Refusal::accepted(LINKED.archive(image, map, out, &mut written))?;
+    let [length] = written;
+    Ok(length as usize)
+}
+
+/// The archive form of an image, as [`archive`] writes it.
+pub fn archived(image: &[u8]) -> Result<Vec<u8>, Refusal> {
+    let mut map = vec![0; image.len()];
+    let mut form = vec![0; image.len()];
+    let length = archive(image, &mut map, &mut form)?;
+    form.truncate(length);
+    Ok(form)
 }
 
 /// Clears the store and makes the machine that stands at procedure 0 of module 0.

@@ -3,7 +3,8 @@
 use crate::{MOST_MODULES, PLACE_WORDS};
 use std::fmt;
 
-/// Why a call was refused. Nothing was changed, but for the map at [`Refusal::NoDepths`] and [`Refusal::NotWhole`].
+/// Why a call was refused. Nothing was changed, but for the map at [`Refusal::NoDepths`] and [`Refusal::NotWhole`], and at
+/// [`Refusal::OutputShort`], where it is filled.
 #[derive(Clone, Copy, Debug, PartialEq, Eq, Hash)]
 pub enum Refusal {
     ImageSize,
@@ -18,8 +19,9 @@ pub enum Refusal {
     ChannelCount,
     NotAMachine,
     MapUnfit,
-    /// Of load, with the first module that is not whole and the lowest position at fault in it.
-    NotWhole(Place),
+    /// Of load with the first module that is not whole and the lowest position at fault in it; of archive without a place.
+    NotWhole(Option<Place>),
+    OutputShort,
 }
 
 /// A position in a module's code.
@@ -30,7 +32,7 @@ pub struct Place {
 }
 
 /// The refusals without a place, with their numbers and words; a number that ends the words is written behind them.
-const REFUSALS: [(Refusal, u16, &str); 12] = [
+const REFUSALS: [(Refusal, u16, &str); 14] = [
     (Refusal::ImageSize, 1, "image of 0 or over 65,535 bytes"),
     (Refusal::ModuleCount, 2, "module count 0 or over"),
     (Refusal::ImageEnds, 3, "image ends inside a part"),
@@ -47,9 +49,9 @@ const REFUSALS: [(Refusal, u16, &str); 12] = [
     (Refusal::ChannelCount, 10, "inputs or outputs not 16 words"),
     (Refusal::NotAMachine, 11, "not a machine"),
     (Refusal::MapUnfit, 12, "map does not fit"),
+    (Refusal::NotWhole(None), 13, "the code is not whole"),
+    (Refusal::OutputShort, 14, "output shorter than the form"),
 ];
-
-const NOT_WHOLE: (u16, &str) = (13, "the code is not whole");
 
 impl Refusal {
     /// The number of the C functions.
@@ -58,20 +60,23 @@ impl Refusal {
     }
 
     fn numbered_words(self) -> (u16, &'static str) {
-        match REFUSALS.iter().find(|row| row.0 == self) {
-            Some(&(_, number, words)) => (number, words),
-            None => NOT_WHOLE,
-        }
+        let placeless = match self {
+            Refusal::NotWhole(_) => Refusal::NotWhole(None),
+            other => other,
+        };
+        let row = REFUSALS.iter().find(|row| row.0 == placeless);
+        let &(_, number, words) = row.expect("every refusal has a row");
+        (number, words)
     }
 
-    /// The refusal of a number other than 13 that a C function answered to this wrapper: never 20, since a place's and a machine's words
-    /// and the answer's numbers are as many as they must be.
+    /// The refusal of a number that a C function answered to this wrapper, without a place: never 20, since a place's and a machine's words
+    /// and the numbers of an answer and of what is written are as many as they must be.
     pub(crate) fn numbered(number: u16) -> Refusal {
         let row = REFUSALS.iter().find(|row| row.1 == number);
         row.unwrap_or_else(|| panic!("{number} is no refusal")).0
     }
 
-    /// Of load and start, which answer 0 where they accept.
+    /// Of load, archive and start, which answer 0 where they accept.
     pub(crate) fn accepted(number: u16) -> Result<(), Refusal> {
         match number {
             0 => Ok(()),
@@ -82,10 +87,10 @@ impl Refusal {
     /// Of load, with the place that it wrote.
     pub(crate) fn loaded(number: u16, place: [u16; PLACE_WORDS]) -> Result<(), Refusal> {
         let [module, position] = place;
-        if number == NOT_WHOLE.0 {
-            return Err(Refusal::NotWhole(Place { module, position }));
-        }
-        Refusal::accepted(number)
+        Refusal::accepted(number).map_err(|refusal| match refusal {
+            Refusal::NotWhole(None) => Refusal::NotWhole(Some(Place { module, position })),
+            other => other,
+        })
     }
 }
 
@@ -95,7 +100,7 @@ impl fmt::Display for Refusal {
         write!(f, "refused {number}: {words}")?;
         match self {
             Refusal::ModuleCount => write!(f, " {MOST_MODULES}"),
-            Refusal::NotWhole(place) => write!(f, " ({place})"),
+            Refusal::NotWhole(Some(place)) => write!(f, " ({place})"),
             _ => Ok(()),
         }
     }

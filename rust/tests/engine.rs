@@ -13,7 +13,7 @@ use common::{image, INPUTS};
 const READING: [u8; 8] = [0x01, 0x00, 0x00, 0x04, 0x02, 0x07, 0xA1, 0xEC];
 
 fn not_whole(module: u16, position: u16) -> Refusal {
-    Refusal::NotWhole(Place { module, position })
+    Refusal::NotWhole(Some(Place { module, position }))
 }
 
 fn stopped(code: &[u8], n: u32) -> (Ran, Cabinet) {

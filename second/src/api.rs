@@ -1,5 +1,6 @@
-//! The calls: load, start, run and the desk's reading.
+//! The calls: load, start, run, archive and the desk's reading.
 
+use crate::archive::form;
 use crate::depths;
 use crate::exec::{self, Lent, Observer};
 use crate::image::{self, Program};
@@ -90,6 +91,44 @@ pub fn load_parsed(program: &Program, image: &[u8], map: &mut [u32]) -> LoadAnsw
         return LoadAnswer::without_place(number::NO_DEPTHS);
     }
     LoadAnswer::without_place(number::ACCEPTED)
+}
+
+/// What archive answers: "only a number, 0 if accepted, and the length written, 0 if
+/// refused".
+#[derive(Clone, Copy, Debug, PartialEq, Eq)]
+pub struct ArchiveAnswer {
+    /// 0, or a refusal 1 to 8, 13 or 14.
+    pub number: u8,
+    pub length: usize,
+}
+
+/// Writes the form of an image to the output. The map is left "as load would; output past
+/// the form is unchanged", and a refusal leaves all of it.
+pub fn archive(image: &[u8], map: &mut [u32], output: &mut [u8]) -> ArchiveAnswer {
+    let (number, length) = match write_form(image, map, output) {
+        Ok(length) => (number::ACCEPTED, length),
+        Err(refusal) => (refusal, 0),
+    };
+    ArchiveAnswer { number, length }
+}
+
+/// The length of the form that is written; or a refusal: "14, the output slice is shorter
+/// than the form, after load's refusals".
+fn write_form(image: &[u8], map: &mut [u32], output: &mut [u8]) -> Result<usize, u8> {
+    let program = image::parse(image)?;
+    accepted(load_parsed(&program, image, map).number)?;
+    let form = form(&program, image);
+    let part = output.get_mut(..form.len());
+    part.ok_or(number::OUTPUT_SHORT)?.copy_from_slice(&form);
+    Ok(form.len())
+}
+
+/// A call's number, where it is a refusal.
+fn accepted(number: u8) -> Result<(), u8> {
+    match number {
+        number::ACCEPTED => Ok(()),
+        refusal => Err(refusal),
+    }
 }
 
 /// Clears and sets the store: 0 and the first machine, or a refusal 1 to 6 or
@@ -322,10 +361,6 @@ fn desk_run(image: &[u8], given: &Given) -> Result<Desk, u8> {
     const WORDS: usize = 4_096;
     const STEPS: u32 = 1_000;
     const ENTRIES: usize = 16_384;
-    let accepted = |refusal: u8| match refusal {
-        number::ACCEPTED => Ok(()),
-        _ => Err(refusal),
-    };
     let mut map = vec![UNMARKED; ENTRIES];
     accepted(load(image, &mut map).number)?;
     let mut store = vec![0; WORDS];

@@ -2,10 +2,12 @@
 
 use crate::image::Procedure;
 
-/// One module to be encoded. A field that is empty is left out of the image.
+/// One module to be encoded. A field that is empty is left out of the image, a data size
+/// of 0 if it is not to be spelled out.
 #[derive(Clone, Debug, Default)]
 pub struct Source {
     pub data_size: u16,
+    pub spells_data: bool,
     pub procedures: Vec<Procedure>,
     pub name: Option<[u8; 8]>,
     pub code: Vec<u8>,
@@ -26,7 +28,7 @@ impl Source {
 pub fn encode(modules: &[Source]) -> Vec<u8> {
     let mut image = vec![modules.len() as u8];
     for module in modules {
-        let has_data = module.data_size != 0;
+        let has_data = module.data_size != 0 || module.spells_data;
         let has_procedures = !module.procedures.is_empty();
         let has_name = module.name.is_some();
         image.push(u8::from(has_data) | u8::from(has_procedures) << 1 | u8::from(has_name) << 2);

@@ -1,14 +1,15 @@
 //! Cases to be replayed by another program, and their file.
 //!
 //! A case is an image with its buffers and a list of runs. It is replayed so:
-//! a map of the length given is filled with one entry and handed to load; a
-//! store of the length given is filled with one word and handed to start; the
-//! outputs are set; then every run follows, whatever load and start answered.
-//! Before a run its patches are written into the map and into the store. The
-//! machine handed to a run is its own, if it has one, else the one that start
-//! or the run before returned. The word of requests is its own, if it has one,
-//! else the one that the run before returned, also a refused one; the first
-//! run's is 0.
+//! a map of the length given is filled with one entry, an output of the length
+//! given with one byte, and both are handed to archive; the map is filled anew
+//! and handed to load; a store of the length given is filled with one word and
+//! handed to start; the outputs are set; then every run follows, whatever the
+//! others answered. Before a run its patches are written into the map and into
+//! the store. The machine handed to a run is its own, if it has one, else the
+//! one that start or the run before returned. The word of requests is its own,
+//! if it has one, else the one that the run before returned, also a refused
+//! one; the first run's is 0.
 //!
 //! # The file
 //!
@@ -16,10 +17,11 @@
 //! high word first. Each list is preceded by its length.
 //!
 //! ```text
-//! file:    4D43 hex, 4, long number of cases, the cases
+//! file:    4D43 hex, 5, long number of cases, the cases
 //! case:    long image length, image bytes (two a word, the first one high;
 //!            an odd last one is followed by a byte 0)
 //!          long map length, long entry that fills the map
+//!          long output length, byte that fills the output (a word 0 to 255)
 //!          long store length, word that fills the store
 //!          number of outputs, outputs
 //!          number of runs, the runs
@@ -36,20 +38,20 @@
 //!            others are 0)
 //! ```
 //!
-//! No image, map or store is longer than [`LONGEST`]; no list of inputs or
+//! No image, map, output or store is longer than [`LONGEST`]; no list of inputs or
 //! outputs has more than [`MOST_CHANNELS`] words. Patches lie inside their
 //! buffers.
 
-use crate::api::{self, Buffers, LoadAnswer, RunAnswer};
+use crate::api::{self, ArchiveAnswer, Buffers, LoadAnswer, RunAnswer};
 use crate::exec::Observer;
 use crate::machine::Machine;
 use crate::request::{bit, highest, open, HELD};
 use std::fmt;
 
 const MAGIC: u16 = 0x4D43;
-const VERSION: u16 = 4;
+const VERSION: u16 = 5;
 
-/// The most bytes, entries or words of an image, a map or a store.
+/// The most bytes, entries or words of an image, a map, an output or a store.
 pub const LONGEST: usize = 65_600;
 /// The most inputs or outputs.
 pub const MOST_CHANNELS: usize = 32;
@@ -59,6 +61,8 @@ pub struct Case {
     pub image: Vec<u8>,
     pub map_length: usize,
     pub map_fill: u32,
+    pub output_length: usize,
+    pub output_fill: u8,
     pub store_length: usize,
     pub store_fill: u16,
     pub outputs: Vec<u16>,
@@ -82,8 +86,22 @@ pub struct Checksum(pub u32, pub u32);
 
 impl Checksum {
     pub fn of(words: &[u16]) -> Checksum {
-        let start = Checksum(1, 1);
-        words.iter().fold(start, |Checksum(first, second), &word| {
+        Checksum::of_each(words.iter().copied())
+    }
+
+    /// A byte is a word.
+    pub fn of_bytes(bytes: &[u8]) -> Checksum {
+        Checksum::of_each(bytes.iter().copied().map(u16::from))
+    }
+
+    /// An entry is two words, its high word first.
+    pub fn of_entries(entries: &[u32]) -> Checksum {
+        let words = |&entry: &u32| [(entry >> 16) as u16, entry as u16];
+        Checksum::of_each(entries.iter().flat_map(words))
+    }
+
+    fn of_each(words: impl Iterator<Item = u16>) -> Checksum {
+        words.fold(Checksum(1, 1), |Checksum(first, second), word| {
             let word = u32::from(word);
             Checksum((31 * first + word) % 65_521, (257 * second + word) % 65_519)
         })
@@ -99,6 +117,10 @@ impl fmt::Display for Checksum {
 /// What the second interpreter says about a case.
 #[derive(Clone, Debug, PartialEq, Eq)]
 pub struct Outcome {
+    pub archive: ArchiveAnswer,
+    /// The whole output after archive, and the whole map.
+    pub output: Vec<u8>,
+    pub archive_map: Vec<u32>,
     pub load: LoadAnswer,
     /// The whole map after load.
     pub map: Vec<u32>,
@@ -249,11 +271,17 @@ impl<O: Observer> Observer for Keeping<'_, O> {
 /// Replays a case.
 pub fn replay<O: Observer>(case: &Case, observer: &mut O) -> Outcome {
     let image = &case.image;
+    let mut output = vec![case.output_fill; case.output_length];
+    let mut archive_map = vec![case.map_fill; case.map_length];
+    let archive = api::archive(image, &mut archive_map, &mut output);
     let mut map = vec![case.map_fill; case.map_length];
     let load = api::load(image, &mut map);
     let mut store = vec![case.store_fill; case.store_length];
     let (start, first_machine) = api::start(image, &mut store);
     let mut outcome = Outcome {
+        archive,
+        output,
+        archive_map,
         load,
         map: map.clone(),
         start,
@@ -369,8 +397,16 @@ impl fmt::Display for Words<'_> {
 }
 
 impl fmt::Display for Outcome {
-    /// A line for load and start, and a line for every run.
+    /// A line for archive, a line for load and start, and a line for every run.
     fn fmt(&self, f: &mut fmt::Formatter) -> fmt::Result {
+        writeln!(
+            f,
+            "archive {} length {} output {} map {}",
+            self.archive.number,
+            self.archive.length,
+            Checksum::of_bytes(&self.output),
+            Checksum::of_entries(&self.archive_map),
+        )?;
         writeln!(
             f,
             "load {} place {} {} map {} start {} store {} {}",
@@ -433,6 +469,8 @@ impl Output {
         self.0.resize(self.0.len().next_multiple_of(2), 0);
         self.long(case.map_length as u32);
         self.long(case.map_fill);
+        self.long(case.output_length as u32);
+        self.word(case.output_fill.into());
         self.long(case.store_length as u32);
         self.word(case.store_fill);
         self.list(&case.outputs);
@@ -476,8 +514,12 @@ impl Output {
 /// The cases of a file, or what is wrong with it.
 pub fn decode(file: &[u8]) -> Result<Vec<Case>, String> {
     let mut input = Input { file, position: 0 };
-    if input.word()? != MAGIC || input.word()? != VERSION {
-        return Err(format!("this is no file of cases, version {VERSION}"));
+    if input.word()? != MAGIC {
+        return Err("this is no file of cases".into());
+    }
+    let version = input.word()?;
+    if version != VERSION {
+        return Err(format!("cases of version {version}, not of {VERSION}"));
     }
     let count = input.long()?;
     let cases: Result<Vec<Case>, String> = (0..count).map(|_| input.case()).collect();
@@ -546,6 +588,8 @@ impl<'a> Input<'a> {
             image: padded[..image_length].to_vec(),
             map_length: self.length()?,
             map_fill: self.long()? as u32,
+            output_length: self.length()?,
+            output_fill: self.byte_in_word()?,
             store_length: self.length()?,
             store_fill: self.word()?,
             outputs: self.list()?,

@@ -2,11 +2,12 @@
 //! makes of result counts, what A.3 makes of code that is not whole, what
 //! collides in transfers, what A.5 makes of saved depths, what A.6 makes of
 //! unsigned results, what A.7 makes of lines, what A.8 makes of traps, what A.9 makes
-//! of READs, and what A.10 makes of numbers of modules.
+//! of READs, what A.10 makes of numbers of modules, and what A.11 makes of forms.
 
 use crate::case::{replay, Case};
 use crate::channels::Channels;
 use crate::exec::Observer;
+use crate::forms::Forms;
 use crate::image::parse;
 use crate::lent::LentMaps;
 use crate::lines::ClockLines;
@@ -37,6 +38,7 @@ pub struct Coverage {
     load: [u64; ANSWERS],
     start: [u64; ANSWERS],
     run: [u64; ANSWERS],
+    archive: [u64; ANSWERS],
     results: Results,
     whole: Whole,
     transfers: Transfers,
@@ -48,6 +50,7 @@ pub struct Coverage {
     traps: Traps,
     channels: Channels,
     modules: Modules,
+    forms: Forms,
     cases: u64,
 }
 
@@ -105,13 +108,14 @@ impl Observer for Steps {
     }
 }
 
-/// 0 and the refusals 1 to 13.
-const ANSWERS: usize = 14;
+/// 0 and the refusals 1 to 14.
+const ANSWERS: usize = 15;
 
 /// Refusals that each call can answer, with 0 where it accepts.
 const LOAD: [u8; 10] = [0, 1, 2, 3, 4, 5, 6, 7, 8, 13];
 const START: [u8; 8] = [0, 1, 2, 3, 4, 5, 6, 9];
 pub const RUN: [u8; 11] = [1, 2, 3, 4, 5, 6, 7, 9, 10, 11, 12];
+const ARCHIVE: [u8; 11] = [0, 1, 2, 3, 4, 5, 6, 7, 8, 13, 14];
 
 /// What fails where a pair stops with 32. The first two must be reached: the
 /// second address alone fails where the high word is the store's last.
@@ -177,6 +181,7 @@ impl Coverage {
             load: [0; ANSWERS],
             start: [0; ANSWERS],
             run: [0; ANSWERS],
+            archive: [0; ANSWERS],
             results: Results::default(),
             whole: Whole::default(),
             transfers: Transfers::default(),
@@ -188,6 +193,7 @@ impl Coverage {
             traps: Traps::default(),
             channels: Channels::default(),
             modules: Modules::default(),
+            forms: Forms::default(),
             cases: 0,
         };
         cases.for_each(|case| coverage.add(&case));
@@ -199,6 +205,7 @@ impl Coverage {
         let outcome = replay(case, &mut self.steps);
         self.load[usize::from(outcome.load.number)] += 1;
         self.start[usize::from(outcome.start)] += 1;
+        self.archive[usize::from(outcome.archive.number)] += 1;
         self.results.add(case, &outcome);
         self.whole.add(case, &outcome);
         self.transfers.add(case, &outcome);
@@ -210,6 +217,7 @@ impl Coverage {
         self.traps.add(case, &outcome);
         self.channels.add(case, &outcome);
         self.modules.add(case, &outcome);
+        self.forms.add(case, &outcome);
         for run in outcome.runs {
             let answer = run.answer;
             match answer.number {
@@ -267,6 +275,7 @@ impl Coverage {
             ("load", &self.load, &LOAD[..]),
             ("start", &self.start, &START),
             ("run", &self.run, &RUN),
+            ("archive", &self.archive, &ARCHIVE),
         ] {
             for (number, &count) in (0u8..).zip(counts) {
                 match (possible.contains(&number), count) {
@@ -279,7 +288,7 @@ impl Coverage {
         faults
     }
 
-    /// What was reached of A.2, of A.3, of transfers, and of A.5 to A.10.
+    /// What was reached of A.2, of A.3, of transfers, and of A.5 to A.11.
     fn kinds(&self) -> impl Iterator<Item = Reached> {
         let mut lines = self.results.reached();
         lines.extend(self.whole.reached());
@@ -292,6 +301,7 @@ impl Coverage {
         lines.extend(self.traps.reached());
         lines.extend(self.channels.reached());
         lines.extend(self.modules.reached());
+        lines.extend(self.forms.reached());
         lines.into_iter()
     }
 
@@ -339,6 +349,7 @@ impl Coverage {
         line("load", numbers(&LOAD, &self.load));
         line("start", numbers(&START, &self.start));
         line("run refused", numbers(&RUN, &self.run));
+        line("archive", numbers(&ARCHIVE, &self.archive));
         let mut stops = vec![("30".to_string(), self.spent)];
         for stop in ENDED..=PROGRAM {
             let count = (0..=255).map(|opcode| self.stop_count(opcode, stop)).sum();

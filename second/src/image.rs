@@ -24,13 +24,19 @@ pub const ONLY_PROCEDURE: Procedure = Procedure {
     results: 0,
 };
 
+/// "name, 8 bytes not interpreted, else zeros"
+pub const NO_NAME: [u8; 8] = [0; 8];
+
 /// What the image says of one module.
 #[derive(Clone, Debug, PartialEq, Eq)]
 pub struct Module {
+    /// Which fields are spelled out.
+    pub bit_map: u8,
     /// Image byte where the code begins.
     pub code_start: usize,
     pub code_length: usize,
     pub data_size: u16,
+    pub name: [u8; 8],
     /// Store word where the module begins, its G. Not reduced: it may pass
     /// 65,535, and then no store is accepted.
     pub base: u32,
@@ -182,8 +188,9 @@ fn parse_module(
     } else {
         None
     };
+    let mut name = NO_NAME;
     if bit_map & 4 != 0 {
-        reader.part(8)?;
+        name.copy_from_slice(reader.part(8)?);
     }
     let code_length = reader.word()?;
     in_range((1..=32_767).contains(&code_length))?;
@@ -200,9 +207,11 @@ fn parse_module(
     let code_start = reader.position;
     reader.part(usize::from(code_length))?;
     Ok(Module {
+        bit_map,
         code_start,
         code_length: usize::from(code_length),
         data_size,
+        name,
         base,
         first_procedure,
         procedure_count: procedures.len() - first_procedure,

@@ -1,13 +1,14 @@
 //! A second interpreter of M-code, written from the paper and its change
-//! requests A.1 to A.10 alone, against which another engine is compared.
+//! requests A.1 to A.11 alone, against which another engine is compared.
 //!
-//! [`load`], [`start`] and [`run`] are the paper's calls, [`desk`] is its "A
-//! whole reading". Octal literals are the paper's opcodes, and quotations in
+//! [`load`], [`start`], [`run`] and [`archive()`] are the paper's calls, [`desk`] is its
+//! "A whole reading". Octal literals are the paper's opcodes, and quotations in
 //! comments are its sentences.
 
 #![forbid(unsafe_code)]
 
 pub mod api;
+pub mod archive;
 pub mod assemble;
 pub mod case;
 pub mod channels;
@@ -15,6 +16,7 @@ pub mod collisions;
 pub mod coverage;
 pub mod depths;
 pub mod exec;
+pub mod forms;
 pub mod gen;
 pub mod image;
 pub mod lent;
@@ -35,5 +37,6 @@ pub mod unsigned;
 pub mod walk;
 pub mod whole;
 
-pub use api::{desk, desk_with, load, run, start, Given, LoadAnswer, RunAnswer};
+pub use api::{archive, desk, desk_with, load, run, start};
+pub use api::{ArchiveAnswer, Given, LoadAnswer, RunAnswer};
 pub use machine::Machine;

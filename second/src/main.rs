@@ -4,7 +4,7 @@ use second::api::Buffers;
 use second::assemble::{encode, Source};
 use second::image::parse;
 use second::walk::{first_fault, Fault};
-use second::{case, coverage::Coverage, gen, load, number, Given};
+use second::{archive, case, coverage::Coverage, gen, load, number, Given};
 use std::ffi::{OsStr, OsString};
 use std::fmt::Display;
 use std::fs::File;
@@ -28,10 +28,13 @@ usage: second reading [--input CH=VALUE].. [--requests WORD] [--after N] [FILE]
            bits 0 to 4 are the depth, 5 to 7 the results, 8 to 10 the number
            of saved depths, and from bit 11 on each of these has five bits,
            the front one first; all ones is unmarked
+       second archive FILE
+           print archive's number, and if it accepts, the form of the image
+           in hex on a second line, two digits a byte
        second coverage [--small] [--seed N] [--cases N]
            replay generated cases and print what they reach; exit 1 if an
            opcode, a stop, a refusal, a collision of a transfer or a kind of
-           A.2, A.3 or A.5 to A.10 is missing
+           A.2, A.3 or A.5 to A.11 is missing
        second coverage CASES
            the same for the cases of a file
        second cases [--small] [--seed N] [--count N] OUT
@@ -72,12 +75,15 @@ fn command(arguments: &[OsString]) -> Answer {
     match (name.to_str().unwrap_or_default(), rest) {
         ("reading", _) => reading(rest),
         ("map", [file]) => print_map(&read_image(open(file)?, &name_of(file))?),
+        ("archive", [file]) => print_form(&read_image(open(file)?, &name_of(file))?),
         ("coverage", _) => coverage(rest),
         ("cases", _) => write_cases(rest),
         ("expect", [file]) => expect(file),
         ("speed", []) => speed(),
         ("--help" | "-h" | "help", []) => print(HELP),
-        ("map" | "expect" | "speed" | "--help" | "-h" | "help", _) => wrong_number(name),
+        ("map" | "archive" | "expect" | "speed" | "--help" | "-h" | "help", _) => {
+            wrong_number(name)
+        }
         _ => Err(format!(
             "no command {}; second --help lists them",
             name_of(name)
@@ -178,6 +184,19 @@ fn print_map(image: &[u8]) -> Answer {
             text += &row.join(" ");
             text.push('\n');
         }
+    }
+    print(&text)
+}
+
+/// The form is never longer than the image.
+fn print_form(image: &[u8]) -> Answer {
+    let (mut map, mut output) = (vec![0; image.len()], vec![0; image.len()]);
+    let answer = archive(image, &mut map, &mut output);
+    let mut text = format!("archive {}\n", answer.number);
+    if answer.number == number::ACCEPTED {
+        let form = &output[..answer.length];
+        text.extend(form.iter().map(|byte| format!("{byte:02x}")));
+        text.push('\n');
     }
     print(&text)
 }

@@ -1,4 +1,4 @@
-//! The paper's numbers: refusals 1 to 13 and stops 30 to 40.
+//! The paper's numbers: refusals 1 to 14 and stops 30 to 40.
 
 /// "Load and start return 0 where they accept."
 pub const ACCEPTED: u8 = 0;
@@ -30,6 +30,8 @@ pub const NOT_A_MACHINE: u8 = 11;
 pub const MAP_UNFIT: u8 = 12;
 /// The code is not whole. A.3: "13, after 7 and before 8".
 pub const NOT_WHOLE: u8 = 13;
+/// A.11: "the output slice is shorter than the form, after load's refusals"
+pub const OUTPUT_SHORT: u8 = 14;
 
 /// "30 spent (all n steps done)"
 pub const SPENT: u8 = 30;

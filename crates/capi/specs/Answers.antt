@@ -1,4 +1,5 @@
--- What the exported load, start and run answer and leave in the buffers that they are lent, from the definition's Loads, startOf and runOf.
+-- What the exported load, start, run and archive answer and leave in the buffers that they are lent, from the definition's Loads, startOf,
+-- runOf and Archives.
 use mathlib.Core.Path.{_≡_}
 use Prim.Native.Nat.{ℕ}
 use mathlib.Core.List.{List, [], _∷_}
@@ -7,13 +8,15 @@ use lib.Dec.{eqb}
 use Rattle.mcode.specs.Word.{pick, and}
 use Rattle.mcode.specs.Machine.{state, live}
 use Rattle.mcode.specs.Run.{Started, RunLeft, Loads, startOf, runOf, endingNumber, endingCode}
+use Rattle.mcode.specs.Archive.{delivery, Archives}
 use Rattle.mcode.specs.declared.Machine.{Machine}
 use Rattle.mcode.specs.declared.Verdict.{Verdict}
 use Rattle.mcode.specs.declared.Ending.{Ending}
 use Rattle.mcode.specs.declared.Ending.the-variants.{Refused, Stopped}
 use Rattle.capi.specs.Words.{wordsOf, machineOf}
 
--- the answer to a place that is not 2 words, a machine that is not 24 words, or an answer that is not 4 numbers: nothing is changed
+-- the answer to a place that is not 2 words, a machine that is not 24 words, an answer that is not 4 numbers, or a length
+-- written that is not one number: nothing is changed
 abbrev pub wrongLength : ℕ
 wrongLength = 20
 
@@ -73,3 +76,10 @@ runWords image map inputs n requests machine store outputs answer =
     pick (and (eqb (length machine) 24) (eqb (length answer) 4))
     (runSays machine (runOf image map inputs n (live (state (machineOf machine) store outputs) requests)))
     (runLeft wrongLength machine store outputs answer)
+
+-- ---- archive
+
+abbrev pub ArchiveLeft : List ℕ → List ℕ → List ℕ → List ℕ → ℕ → List ℕ → List ℕ → List ℕ → Type 0
+ArchiveLeft image before output written number after output′ written′ =
+    pick (eqb (length written) 1) ((long : ℕ) × Archives image before output after (delivery (record { number = number; length = long }) output′) × (written′ ≡ long ∷ []))
+    ((number ≡ wrongLength) × (after ≡ before) × (output′ ≡ output) × (written′ ≡ written))

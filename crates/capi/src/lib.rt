@@ -1,11 +1,11 @@
-// The engine for C and for other languages: load, start and run over plain slices. A slice passes as a pointer and a length in
+// The engine for C and for other languages: load, start, run and archive over plain slices. A slice passes as a pointer and a length in
 // elements (include/cembuxola.h). Nothing is asked of the lengths: a buffer of a wrong length is answered with a number.
 use crate::words::pack;
 use crate::words::put_answer;
 use crate::words::unpack;
 use mcode::Ending;
 ghost use mathlib.Core.Path.{_≡_};
-ghost use Rattle.capi.specs.Answers.{LoadLeft, startLeft, startWords, runLeft, runWords};
+ghost use Rattle.capi.specs.Answers.{LoadLeft, ArchiveLeft, startLeft, startWords, runLeft, runWords};
 
 mod words;
 
@@ -84,4 +84,23 @@ pub extern "C" fn cembuxola_run(
             mcode::stop_number(stop)
         }
     }
+}
+
+// The number of the refusal, load's or 14, or 0, and the length written: the form's, 0 where it refuses. 20 where written is not one
+// number, and then nothing is changed.
+#[no_mangle]
+pub extern "C" fn cembuxola_archive(
+    image: &[u8],
+    map: &mut [u32],
+    out: &mut [u8],
+    written: &mut [u32],
+) -> u16
+    ensures { λ r. ⌜ ArchiveLeft (now (image .entry)) (now (map .entry)) (now (out .entry)) (now (written .entry)) r (now (map .exit)) (now (out .exit)) (now (written .exit)) ⌝ }
+{
+    if written.len() != 1 {
+        return 20;
+    }
+    let delivered = archive::archive(image, map, out);
+    written[0] = delivered.length as u32;
+    delivered.number
 }

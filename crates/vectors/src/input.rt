@@ -94,7 +94,7 @@ pub fn next_length(buffer: &mut [u8; 4096], from: Input) -> Input {
     limited(next, 65600)
 }
 
-// The start of the file: 4D43 hex, the format's number 4, and the number of cases.
+// The start of the file: 4D43 hex, the format's number 5, and the number of cases.
 pub fn header(buffer: &mut [u8; 4096]) -> Input {
     let begin = Input {
         at: 0,
@@ -107,7 +107,7 @@ pub fn header(buffer: &mut [u8; 4096]) -> Input {
     if mark.number != 0x4D43 {
         return bad();
     }
-    if format.number != 4 {
+    if format.number != 5 {
         return bad();
     }
     next_long(buffer, format)

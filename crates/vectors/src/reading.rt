@@ -18,11 +18,14 @@ pub struct List {
     pub words: [u16; 32],
 }
 
-// What a case says before its runs: the lengths of the image, the map and the store, and the outputs.
+// What a case says before its runs: the lengths of the image, the map, the output and the store, the entry that fills the map, and the
+// outputs.
 pub struct Case {
     pub input: Input,
     pub image: usize,
     pub map: usize,
+    pub entry: u32,
+    pub output: usize,
     pub store: usize,
     pub outs: usize,
     pub outputs: [u16; 32],
@@ -51,7 +54,13 @@ fn set_word(words: &mut [u16; 65600], i: usize, word: u16) {
     }
 }
 
-fn fill_entries(entries: &mut [u32; 65600], n: usize, entry: u32) {
+fn set_byte(bytes: &mut [u8; 65600], i: usize, byte: u8) {
+    if i < 65600 {
+        bytes[i] = byte;
+    }
+}
+
+pub fn fill_entries(entries: &mut [u32; 65600], n: usize, entry: u32) {
     let mut i: usize = 0;
     while i < n {
         set_entry(entries, i, entry);
@@ -63,6 +72,14 @@ fn fill_words(words: &mut [u16; 65600], n: usize, word: u16) {
     let mut i: usize = 0;
     while i < n {
         set_word(words, i, word);
+        i += 1;
+    }
+}
+
+fn fill_bytes(bytes: &mut [u8; 65600], n: usize, byte: u8) {
+    let mut i: usize = 0;
+    while i < n {
+        set_byte(bytes, i, byte);
         i += 1;
     }
 }
@@ -122,12 +139,13 @@ fn read_list(buffer: &mut [u8; 4096], from: Input, most: u32) -> List {
     }
 }
 
-// A case up to its runs. The map and the store are filled as it says.
+// A case up to its runs. The map, the output and the store are filled as it says.
 pub fn read_case(
     buffer: &mut [u8; 4096],
     from: Input,
     image: &mut [u8; 65600],
     map: &mut [u32; 65600],
+    output: &mut [u8; 65600],
     store: &mut [u16; 65600],
 ) -> Case {
     let size = next_length(buffer, from);
@@ -137,7 +155,11 @@ pub fn read_case(
     let m = marks.number as usize;
     let entry = next_long(buffer, marks);
     fill_entries(map, m, entry.number);
-    let words = next_length(buffer, entry);
+    let bytes = next_length(buffer, entry);
+    let o = bytes.number as usize;
+    let byte = next_word(buffer, bytes);
+    fill_bytes(output, o, low_byte(byte.number));
+    let words = next_length(buffer, byte);
     let w = words.number as usize;
     let word = next_word(buffer, words);
     fill_words(store, w, low_word(word.number));
@@ -148,6 +170,8 @@ pub fn read_case(
         input,
         image: n,
         map: m,
+        entry: entry.number,
+        output: o,
         store: w,
         outs: list.count,
         outputs,

@@ -1,4 +1,4 @@
-// Replays cases, and prints a line for load and start and a line for every run.
+// Replays cases, and prints a line for archive, a line for load and start and a line for every run.
 use crate::input::Input;
 use crate::input::next_word;
 use crate::output::put_entries;
@@ -11,14 +11,18 @@ use crate::output::put_words;
 use crate::parts::Sums;
 use crate::parts::bytes_of;
 use crate::parts::entries_of;
+use crate::parts::sums_of_bytes;
+use crate::parts::sums_of_entries;
 use crate::parts::sums_of_words;
 use crate::parts::words_of;
 use crate::reading::Case;
 use crate::reading::Run;
+use crate::reading::fill_entries;
 use crate::reading::read_case;
 use crate::reading::read_run;
 use engine::run::Ran;
 use loader::start::Started;
+use mcode::Delivered;
 use mcode::Ending;
 use mcode::Machine;
 use mcode::Verdict;
@@ -81,7 +85,23 @@ fn code_of(ending: Ending) -> u16 {
     }
 }
 
-// Load, start and run on the first words or bytes of the buffers, as many as the case says: never more than there are.
+// Archive, load, start and run on the first words or bytes of the buffers, as many as the case says: never more than there are.
+fn archive_part(
+    image: &[u8],
+    n: usize,
+    map: &mut [u32],
+    m: usize,
+    output: &mut [u8],
+    o: usize,
+) -> Delivered {
+    if m <= map.len() {
+        if o <= output.len() {
+            return archive::archive(bytes_of(image, n), &mut map[0..m], &mut output[0..o]);
+        }
+    }
+    archive::archive(bytes_of(image, n), map, output)
+}
+
 fn load_part(image: &[u8], n: usize, map: &mut [u32], m: usize) -> Verdict {
     if m <= map.len() {
         return loader::load::load(bytes_of(image, n), &mut map[0..m]);
@@ -94,6 +114,20 @@ fn start_part(image: &[u8], n: usize, store: &mut [u16], w: usize) -> Started {
         return loader::start::start(bytes_of(image, n), &mut store[0..w]);
     }
     loader::start::start(bytes_of(image, n), store)
+}
+
+fn print_archived(
+    text: &mut [u8; 4096],
+    at: usize,
+    answer: Delivered,
+    output: Sums,
+    map: Sums,
+) -> usize {
+    let mut next = put_named(text, at, b"archive", answer.number as u64);
+    next = put_named(text, next, b" length", answer.length as u64);
+    next = print_sums(text, next, b" output", output);
+    next = print_sums(text, next, b" map", map);
+    put_line_end(text, next)
 }
 
 fn print_begun(
@@ -238,6 +272,22 @@ fn replay_runs(
     }
 }
 
+// Archive and its line; then the map is filled anew for load.
+fn file_away(
+    text: &mut [u8; 4096],
+    at: usize,
+    case: Case,
+    image: &[u8; 65600],
+    map: &mut [u32; 65600],
+    output: &mut [u8; 65600],
+) -> usize {
+    let answer = archive_part(image, case.image, map, case.map, output, case.output);
+    let bytes = sums_of_bytes(bytes_of(output, case.output));
+    let entries = sums_of_entries(entries_of(map, case.map));
+    fill_entries(map, case.map, case.entry);
+    print_archived(text, at, answer, bytes, entries)
+}
+
 // Load and start, and their line.
 fn begin(
     text: &mut [u8; 4096],
@@ -272,10 +322,11 @@ fn replay_case(
     k: u32,
     image: &mut [u8; 65600],
     map: &mut [u32; 65600],
+    output: &mut [u8; 65600],
     store: &mut [u16; 65600],
 ) -> Places {
     let from = at.input;
-    let mut case = read_case(buffer, from, image, map, store);
+    let mut case = read_case(buffer, from, image, map, output, store);
     let listed = case.input;
     let runs = next_word(buffer, listed);
     if !runs.good {
@@ -287,7 +338,8 @@ fn replay_case(
     case.input = runs;
     let titled = put_named(text, at.out, b"case", k as u64);
     let next = put_line_end(text, titled);
-    let first = begin(text, next, case, image, map, store);
+    let filed = file_away(text, next, case, image, map, output);
+    let first = begin(text, filed, case, image, map, store);
     replay_runs(buffer, text, first, runs.number, case, image, map, store)
 }
 
@@ -298,6 +350,7 @@ pub fn cases(
     text: &mut [u8; 4096],
     image: &mut [u8; 65600],
     map: &mut [u32; 65600],
+    output: &mut [u8; 65600],
     store: &mut [u16; 65600],
 ) -> usize {
     let mut places = Places {
@@ -306,7 +359,7 @@ pub fn cases(
     };
     let mut k: u32 = 0;
     while k < begun.number {
-        places = replay_case(buffer, text, places, k, image, map, store);
+        places = replay_case(buffer, text, places, k, image, map, output, store);
         let input = places.input;
         if !input.good {
             return places.out;

@@ -120,6 +120,7 @@ fn write_module(
         procedures,
         name: rng.once_in(3).then(|| rng.bits().to_be_bytes()),
         code,
+        ..Source::default()
     }
 }
 

@@ -5,6 +5,7 @@ mod channels;
 mod code;
 mod expression;
 mod fault;
+mod forms;
 mod hostile;
 mod interrupted;
 mod lines;
@@ -84,12 +85,12 @@ pub const SMALL: Scale = Scale {
     alterations: 2,
     machine_runs: 4,
     large_parts: 20,
-    large_rounds: 7,
+    large_rounds: 6,
     own_inputs: 8,
 };
 
 /// The cases of a round, each of a kind of its own or one of several.
-pub const ROUND: u64 = 53;
+pub const ROUND: u64 = 54;
 
 /// One case of a seed.
 pub fn case(scale: &Scale, seed: u64, index: u64) -> Case {
@@ -99,7 +100,7 @@ pub fn case(scale: &Scale, seed: u64, index: u64) -> Case {
         kind @ 0..=1 => fault_case(rng, scale, 2 * round + kind),
         2..=6 => program_case(rng, scale),
         7 => wrong_return_case(rng, scale),
-        8 => shared_code_case(rng, scale),
+        8 => shared_code_case(rng, scale, round.is_multiple_of(4)),
         9 => {
             let opcode = any_double(rng);
             state_case(rng, scale, opcode)
@@ -135,6 +136,7 @@ pub fn case(scale: &Scale, seed: u64, index: u64) -> Case {
         50 => caught::turn_case(rng, scale, round as usize),
         51 => channels::turn_case(rng, scale, round as usize),
         52 => modules::turn_case(rng, round as usize),
+        53 => forms::turn_case(rng, round as usize),
         _ => sizes_case(rng, scale),
     };
     // The others are made run by run.
@@ -145,6 +147,10 @@ pub fn case(scale: &Scale, seed: u64, index: u64) -> Case {
     // Those of READs have inputs that were made for them.
     if index % ROUND != 51 {
         keep_inputs(rng, scale, &mut case.runs);
+    }
+    // Those of forms have an output that was made for them.
+    if index % ROUND != 53 {
+        forms::give_output(rng, &mut case);
     }
     case
 }
@@ -257,6 +263,7 @@ fn case_of(rng: &mut Rng, image: Vec<u8>, store_length: usize) -> Case {
         outputs: words(rng, 16),
         image,
         runs: Vec::new(),
+        ..Case::default()
     }
 }
 
@@ -313,21 +320,27 @@ fn wrong_return_case(rng: &mut Rng, scale: &Scale) -> Case {
     case
 }
 
-/// An accepted program, and one more procedure that shares code with another.
-fn shared_code_case(rng: &mut Rng, scale: &Scale) -> Case {
+/// An accepted program, and one more procedure that shares code with another, in turn at
+/// its entry.
+fn shared_code_case(rng: &mut Rng, scale: &Scale, at_entry: bool) -> Case {
     let shape = any_shape(rng, scale);
     let mut modules = program(rng, &shape);
     let world = World::of(rng, &shape, &modules);
-    let place = world.place_to_share(rng);
-    share(rng, &mut modules[usize::from(place.module)], place);
+    let place = world.place_to_share(rng, at_entry);
+    share(
+        rng,
+        &mut modules[usize::from(place.module)],
+        place,
+        at_entry,
+    );
     let mut case = case_of(rng, encode(&modules), world.words);
     case.runs = plain_runs(rng, scale);
     case
 }
 
-/// One more procedure, which begins at the place or jumps to it. It mostly has
-/// other results: then A.2 alone refuses the code.
-fn share(rng: &mut Rng, module: &mut Source, place: Place) {
+/// One more procedure, which begins at the place or, if it may, jumps to it. It
+/// mostly has other results: then A.2 alone refuses the code.
+fn share(rng: &mut Rng, module: &mut Source, place: Place, at_entry: bool) {
     let Mark { depth, results, .. } = place.mark;
     let mut procedure = Procedure {
         entry: place.position,
@@ -337,7 +350,7 @@ fn share(rng: &mut Rng, module: &mut Source, place: Place) {
             _ => other_results(rng, results),
         },
     };
-    if rng.once_in(2) {
+    if !at_entry && rng.once_in(2) {
         procedure.entry = module.code.len() as u16;
         procedure.parameters = rng.within(0, depth.into()) as u8;
         let missing = depth - procedure.parameters;
@@ -836,8 +849,12 @@ fn large_case(rng: &mut Rng, kind: u64) -> Case {
     let (image, store_length) = match kind % 10 {
         // The most modules in the largest store.
         0 => (encode(&many(rng, MOST_MODULES, 3, 2900)), 65_535),
-        // One code of 32,767 bytes.
-        1 => (encode(&[filled(32_767)]), 4_096),
+        // One code of 32,767 bytes, with all fields spelled out.
+        1 => {
+            let mut module = filled(32_767);
+            forms::spell_all_out(&mut module);
+            (encode(&[module]), 4_096)
+        }
         // 65,535 bytes: 1 + 3 + 32,767 + 3 + 32,761.
         2 => (encode(&[filled(32_767), filled(32_761)]), 65_535),
         // One byte more.

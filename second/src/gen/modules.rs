@@ -37,14 +37,14 @@ pub fn turn_case(rng: &mut Rng, round: usize) -> Case {
 const WORDS: usize = 500;
 
 /// An image, and a run, which reads it afresh.
-fn image_case(rng: &mut Rng, image: Vec<u8>) -> Case {
+pub fn image_case(rng: &mut Rng, image: Vec<u8>) -> Case {
     let mut case = case_of(rng, image, WORDS);
     case.runs = vec![plain_run(rng, 10)];
     case
 }
 
 /// So many modules of one byte of code or two, some of them with data.
-fn plain_modules(rng: &mut Rng, count: usize) -> Vec<Source> {
+pub fn plain_modules(rng: &mut Rng, count: usize) -> Vec<Source> {
     const CODES: [&[u8]; 3] = [&[RTN], &[RTN], &[NOP, RTN]];
     let module = |_| Source {
         data_size: rng.pick(&[0, 0, 0, 1, 9]),
@@ -98,7 +98,12 @@ fn behind_case(rng: &mut Rng, number: u8) -> Case {
 
 /// An image of so many modules that is at fault in this one, or behind the last.
 fn spoiled(rng: &mut Rng, count: usize, at: usize, number: u8) -> Vec<u8> {
-    let mut modules = plain_modules(rng, count);
+    let modules = plain_modules(rng, count);
+    spoil(rng, modules, at, number)
+}
+
+/// The same of these modules, which have entry 0 alone.
+pub fn spoil(rng: &mut Rng, mut modules: Vec<Source>, at: usize, number: u8) -> Vec<u8> {
     match number {
         FIELD_RANGE => spoil_field(rng, &mut modules[at]),
         NO_DEPTHS => modules[at].code = vec![TRAP],

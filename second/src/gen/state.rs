@@ -110,12 +110,13 @@ impl World {
     }
 
     /// An entry, a TRAP or any marked position, for another procedure to share.
-    pub fn place_to_share(&self, rng: &mut Rng) -> Place {
+    pub fn place_to_share(&self, rng: &mut Rng, at_entry: bool) -> Place {
         let is_entry = |place: &Place| {
             let mut procedures = self.program.procedures(place.module.into()).iter();
             procedures.any(|procedure| procedure.entry == place.position)
         };
         let place = match rng.below(4) {
+            _ if at_entry => self.place_where(rng, is_entry),
             0 => self.place_where(rng, is_entry),
             1 => self.place_where(rng, |place| place.opcode == TRAP),
             _ => None,

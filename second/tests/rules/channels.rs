@@ -485,7 +485,7 @@ fn the_word_is_printed() {
         ..Case::default()
     };
     let text = replay(&case, &mut ()).to_string();
-    let lines: Vec<&str> = text.lines().skip(1).collect();
+    let lines: Vec<&str> = text.lines().skip(2).collect();
     for (line, begin) in lines.iter().zip([
         "run 30 code 0 count 3 requests 3 channels 32768 machine 0 6 0 ",
         "run 30 code 0 count 2 requests 3 channels 0 machine 0 11 2 ",

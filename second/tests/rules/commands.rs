@@ -267,6 +267,36 @@ fn map_of_code_that_is_not_whole() {
     }
 }
 
+/// What the command `archive` prints of an image.
+fn form_of(name: &str, image: &[u8]) -> String {
+    let path = file(name, image);
+    let output = second(&["archive", path.to_str().unwrap()], &[]);
+    assert_eq!(output.status.code(), Some(0));
+    text(&output.stdout).to_string()
+}
+
+/// The number, and the form if the image is accepted. For 13 nothing else is told.
+#[test]
+fn archive() {
+    assert_eq!(form_of("own", &EXAMPLE), "archive 0\n010000040207a1ec\n");
+    // A data size of 0, the default procedure, a name of zeros.
+    let fields = [&[1, 7, 0, 0, 1][..], &[0; 8], &[0, 4], &[0; 4]].concat();
+    let spelled = [&fields, &EXAMPLE[4..]].concat();
+    assert_eq!(
+        form_of("spelled", &spelled),
+        "archive 0\n010000040207a1ec\n"
+    );
+    // A line has the whole form, however long.
+    let nops = [&[1, 0, 1, 0][..], &[0o336; 255], &[0o354]].concat();
+    let expected = format!("archive 0\n01000100{}ec\n", "de".repeat(255));
+    assert_eq!(form_of("long", &nops), expected);
+    assert_eq!(form_of("empty", &[]), "archive 1\n");
+    assert_eq!(form_of("cut", &[1, 0, 0, 1]), "archive 3\n");
+    assert_eq!(form_of("no-depths", &[1, 0, 0, 1, 0xC4]), "archive 8\n");
+    assert_eq!(form_of("unlisted", &[1, 0, 0, 1, 0o021]), "archive 13\n");
+    assert_eq!(form_of("too-long", &[1; 65_536]), "archive 1\n");
+}
+
 #[test]
 fn cases_and_expect() {
     let path = file("cases", &[]);
@@ -312,6 +342,34 @@ fn small_cases_and_their_coverage() {
     ] {
         let missing = format!("missing: no images {kind}\n");
         assert!(text(&output.stdout).contains(&missing));
+    }
+    for kind in [
+        "modules written with the bit map 0 for 7",
+        "forms written of 65535 bytes",
+        "archive without output refused with 8",
+    ] {
+        let missing = format!("missing: no {kind}\n");
+        assert!(text(&output.stdout).contains(&missing));
+    }
+}
+
+/// A file of another version is refused, and the message says so.
+#[test]
+fn other_versions_of_cases_are_refused() {
+    let mut cases = second::case::encode(&[]);
+    assert_eq!(cases, [0x4D, 0x43, 0, 5, 0, 0, 0, 0]);
+    for (version, message) in [
+        (4, "cases of version 4, not of 5"),
+        (6, "cases of version 6, not of 5"),
+    ] {
+        cases[3] = version;
+        let path = file("cases-other", &cases);
+        for command in ["expect", "coverage"] {
+            let output = second(&[command, path.to_str().unwrap()], &[]);
+            assert_eq!(output.status.code(), Some(2));
+            let expected = format!("second: {}: {message}\n", path.display());
+            assert_eq!(text(&output.stderr), expected);
+        }
     }
 }
 
@@ -375,6 +433,9 @@ fn errors_are_one_line_and_status_2() {
         &["reading", "--seed", "1"],
         &["map"],
         &["map", missing],
+        &["archive"],
+        &["archive", missing],
+        &["archive", no_file, no_file],
         &["coverage", "--seed"],
         &["coverage", "--seed", "x"],
         &["coverage", "--count", "1"],
@@ -401,7 +462,9 @@ fn errors_are_one_line_and_status_2() {
 fn help_names_every_command() {
     let output = second(&["--help"], &[]);
     assert_eq!(output.status.code(), Some(0));
-    for command in ["reading", "map", "coverage", "cases", "expect", "speed"] {
+    for command in [
+        "reading", "map", "archive", "coverage", "cases", "expect", "speed",
+    ] {
         assert!(text(&output.stdout).contains(&format!("second {command}")));
     }
 }

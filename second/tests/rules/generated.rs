@@ -1,6 +1,7 @@
 //! The generator, its cases and their file; laws that hold in every case.
 
 use crate::channel_kinds::is_of_channels;
+use crate::form_kinds::is_of_forms;
 use crate::line_kinds::is_of_lines;
 use crate::module_kinds::is_of_modules;
 use crate::rig::{channels_of_step, FF};
@@ -180,6 +181,35 @@ fn everything_is_covered() {
     assert_eq!(beginning("no runs of the most modules "), 3);
     let of_modules = faults.iter().filter(|fault| is_of_modules(fault));
     assert_eq!(of_modules.count(), 4 + 4 + 3 + 7 + 9 + 12 + 6 + 10 + 3);
+    // What A.11 makes of fields, three in each of eight bit maps; of forms, of where an
+    // image is longer, of outputs, and of refusals and maps.
+    assert!(faults.contains(&"archive never answered 14".to_string()));
+    assert_eq!(beginning("archive never answered "), 11);
+    let module = "no accepted images with a module whose ";
+    for (field, count) in [
+        ("data size is", 5),
+        ("procedures are", 10),
+        ("name is", 6),
+        ("bit map is", 8),
+    ] {
+        assert_eq!(beginning(&format!("{module}{field} ")), count);
+    }
+    assert_eq!(beginning("no modules written with the bit map "), 27);
+    assert_eq!(beginning("no forms written of "), 3 + 2);
+    assert_eq!(beginning("no forms written to an output of "), 6);
+    assert_eq!(beginning("no forms refused with 14 of an image "), 2);
+    assert_eq!(beginning("no forms refused with 14 for an output "), 3);
+    assert_eq!(beginning("no images longer than their form with "), 3);
+    assert_eq!(beginning("no images longer than their form by "), 4);
+    assert_eq!(beginning("no archive without output refused "), 9);
+    assert_eq!(beginning("no archive with a long output refused "), 9);
+    assert_eq!(beginning("no archive with a map of the image's length "), 4);
+    assert_eq!(beginning("no archive with a longer map "), 4);
+    let of_forms = faults.iter().filter(|fault| is_of_forms(fault));
+    assert_eq!(
+        of_forms.count(),
+        11 + 29 + 27 + 5 + 6 + 2 + 3 + 3 + 4 + 9 + 9 + 4 + 4
+    );
 }
 
 /// A module, and entry, parameters and results of its procedures.
@@ -1315,6 +1345,128 @@ fn one_module_too_many_is_all() {
     }
 }
 
+/// The cases of A.11 in so many rounds that each has had its turn, but for some.
+fn cases_of_forms<'a>(
+    scale: &'a Scale,
+    seed: u64,
+    left_out: &'a [u64],
+) -> impl Iterator<Item = Case> + 'a {
+    let rounds = (0..32).filter(|round| !left_out.contains(round));
+    rounds.map(move |round| gen::case(scale, seed, ROUND * round + 53))
+}
+
+fn missing_forms(cases: impl Iterator<Item = Case>) -> Vec<String> {
+    let mut missing = Coverage::of(cases).faults();
+    missing.retain(|fault| is_of_forms(fault));
+    missing
+}
+
+/// Cases of the largest sizes have these.
+const LONG_FORMS: [&str; 2] = [
+    "no forms written of 65535 bytes",
+    "no forms written of over 32767 bytes, shorter than the image",
+];
+
+/// They have every kind but for long forms, whatever the seed.
+#[test]
+fn forms_are_generated() {
+    let seeds = (1..=24).map(|seed| (&SMALL, seed));
+    for (scale, seed) in seeds.chain([(&FULL, 1)]) {
+        let missing = missing_forms(cases_of_forms(scale, seed, &[]));
+        let others = missing.iter().filter(|it| !LONG_FORMS.contains(&&it[..]));
+        assert_eq!(others.collect::<Vec<_>>(), [""; 0], "seed {seed}");
+    }
+}
+
+/// Without the cases of one turn or more, something is missing.
+#[test]
+fn kinds_of_forms_are_needed() {
+    let missing = |left_out: &[u64]| {
+        let mut missing = missing_forms(cases_of_forms(&SMALL, SEED, left_out));
+        missing.retain(|fault| !LONG_FORMS.contains(&&fault[..]));
+        missing
+    };
+    let check = |left_out: &[u64], kinds: &[&str]| {
+        let expected = kinds.iter().map(|kind| format!("no {kind}"));
+        assert_eq!(missing(left_out), expected.collect::<Vec<_>>());
+    };
+    let needed = |left_out: &[u64], kinds: &[&str]| {
+        let missing = missing(left_out);
+        for kind in kinds {
+            assert!(missing.contains(&format!("no {kind}")), "{missing:?}");
+        }
+    };
+    // Fields with one another, and those with long code.
+    let written = "modules written with the bit map";
+    needed(&[0], &[&format!("{written} 2 for 6")]);
+    needed(&[1], &[&format!("{written} 3 for 7")]);
+    let procedures = "accepted images with a module whose procedures are";
+    let entry = format!("{procedures} one with another entry by its high byte alone");
+    needed(&[0, 1], &[&entry]);
+    check(&[2], &[&format!("{procedures} 255")]);
+    // Modules that are longer than in the form.
+    let count = "images longer than their form with a module count of";
+    check(&[3], &["forms written of 5 bytes", &format!("{count} 1")]);
+    needed(&[7, 8, 9, 11], &[&format!("{count} 21")]);
+    let by = "images longer than their form by";
+    needed(&[4, 7], &[&format!("{by} the first module alone")]);
+    needed(&[5, 8], &[&format!("{by} a module between alone")]);
+    needed(&[6, 9], &[&format!("{by} the last module alone")]);
+    needed(&[10, 11], &[&format!("{by} all of several modules")]);
+    // Outputs.
+    let to = "forms written to an output of";
+    check(&[4], &[&format!("{to} one byte more")]);
+    needed(&[4, 5], &[&format!("{to} more, and less than the image's")]);
+    check(&[6], &[&format!("{to} the image's, which is more")]);
+    check(&[7], &[&format!("{to} more than the image's")]);
+    let short = "forms refused with 14 for an output of";
+    let less = format!("{short} one byte less than the form");
+    needed(&[8, 13], &[&less]);
+    check(&[10], &[&format!("{short} 0")]);
+    check(
+        &[11],
+        &[&format!("{short} 1 to two bytes less than the form")],
+    );
+    check(
+        &[13],
+        &["forms refused with 14 of an image that is its own form"],
+    );
+    // Refusals without an output and with a long one, and the maps of two of them.
+    let refusals = ["1", "2", "3", "4", "5", "6", "7", "8", "13"];
+    for (turn, number) in (14..).step_by(2).zip(refusals) {
+        let refused = [
+            ("without output", "a map of the image's length"),
+            ("with a long output", "a longer map"),
+        ];
+        for (turn, (output, map)) in (turn..).zip(refused) {
+            let output = format!("archive {output} refused with {number}");
+            let map = format!("archive with {map} answers {number}");
+            match number {
+                "8" | "13" => check(&[turn], &[&output, &map]),
+                _ => check(&[turn], &[&output]),
+            }
+        }
+    }
+}
+
+/// Outputs of other cases: mostly as long as the form, and each of the others too.
+#[test]
+fn all_cases_have_an_output() {
+    let (mut exact, mut others, mut fills) = (0, 0, [0; 256]);
+    for case in gen::cases(&SMALL, SEED, 3008) {
+        let outcome = replay(&case, &mut ());
+        fills[usize::from(case.output_fill)] += 1;
+        match outcome.archive.number {
+            0 if outcome.archive.length == case.output_length => exact += 1,
+            0 | 14 => others += 1,
+            _ => {}
+        }
+    }
+    assert!(others > 300 && exact > others, "{exact} {others}");
+    // Bytes that fill it are of all kinds: what is written over shows.
+    assert!(fills.iter().all(|&count| count < 40), "{fills:?}");
+}
+
 /// Any word 14 comes in cases of other kinds, and most traps of these are stops.
 #[test]
 fn other_cases_catch_few_traps() {
@@ -1371,6 +1523,40 @@ fn files_of_cases_are_read_back() {
     assert!(decode(&[&small[..], &[0]].concat()).is_err());
 }
 
+/// The words of the output are the seventh to the ninth of a case without an image: at
+/// most 65,600 bytes, and a byte.
+#[test]
+fn outputs_in_a_file_are_limited() {
+    let case = Case {
+        output_length: 65_600,
+        output_fill: 255,
+        ..Case::default()
+    };
+    let file = encode(std::slice::from_ref(&case));
+    let words = |file: &[u8]| file[20..26].to_vec();
+    assert_eq!(words(&file), [0, 1, 0, 64, 0, 255]);
+    assert_eq!(decode(&file), Ok(vec![case]));
+    for (at, byte, message) in [
+        (23, 65, "65601 is above 65600 at 24"),
+        (24, 1, "511 is above 255 at 26"),
+    ] {
+        let mut wrong = file.clone();
+        wrong[at] = byte;
+        assert_eq!(decode(&wrong), Err(message.to_string()));
+    }
+}
+
+/// Files of the version before have no outputs.
+#[test]
+fn other_versions_are_refused() {
+    let mut file = encode(&[Case::default()]);
+    file[3] = 4;
+    let message = "cases of version 4, not of 5";
+    assert_eq!(decode(&file), Err(message.to_string()));
+    file[0] = 0;
+    assert_eq!(decode(&file), Err("this is no file of cases".to_string()));
+}
+
 #[test]
 fn the_file_is_as_documented() {
     let machine = Machine {
@@ -1388,6 +1574,8 @@ fn the_file_is_as_documented() {
         image: vec![0xAB, 0xCD, 0xEF],
         map_length: 4,
         map_fill: 0x1234_5678,
+        output_length: 65_537,
+        output_fill: 0xA9,
         store_length: 65_536,
         store_fill: 0x1234,
         outputs: vec![9, 10],
@@ -1410,9 +1598,10 @@ fn the_file_is_as_documented() {
             CaseRun::default(),
         ],
     };
-    let mut expected: Vec<u16> = vec![0x4D43, 4, 0, 1];
+    let mut expected: Vec<u16> = vec![0x4D43, 5, 0, 1];
     expected.extend([0, 3, 0xABCD, 0xEF00]);
     expected.extend([0, 4, 0x1234, 0x5678]);
+    expected.extend([1, 1, 0xA9]);
     expected.extend([1, 0, 0x1234]);
     expected.extend([2, 9, 10]);
     expected.push(3);
@@ -1439,6 +1628,14 @@ fn checksums_are_as_documented() {
         Checksum::of(&[5, 65_535]),
         Checksum(66_651 - 65_521, 132_869 - 2 * 65_519)
     );
+    // A byte is a word; an entry is two, its high word first.
+    assert_eq!(Checksum::of_bytes(&[]), Checksum(1, 1));
+    assert_eq!(Checksum::of_bytes(&[5, 255]), Checksum::of(&[5, 255]));
+    assert_eq!(Checksum::of_entries(&[]), Checksum(1, 1));
+    assert_eq!(
+        Checksum::of_entries(&[0x0005_FFFF, 7]),
+        Checksum::of(&[5, 65_535, 0, 7])
+    );
 }
 
 #[test]
@@ -1447,6 +1644,8 @@ fn an_outcome_is_printed_in_lines() {
     let case = Case {
         image: vec![0x01, 0x00, 0x00, 0x04, 0x02, 0x07, 0xA1, 0xEC],
         map_length: 8,
+        output_length: 9,
+        output_fill: 0x55,
         store_length: 167,
         outputs: vec![3; 16],
         runs: vec![
@@ -1462,7 +1661,14 @@ fn an_outcome_is_printed_in_lines() {
     };
     let text = replay(&case, &mut ()).to_string();
     let lines: Vec<&str> = text.lines().collect();
-    assert_eq!(lines.len(), 3);
+    assert_eq!(lines.len(), 4);
+    // The image is its own form. A byte behind it is as it was.
+    let output = Checksum::of(&[1, 0, 0, 4, 2, 7, 0xA1, 0xEC, 0x55]);
+    let ones = [65_535; 8];
+    let entries = Checksum::of(&[&ones[..], &[0, 0, 0, 1, 0, 2, 0, 0]].concat());
+    let archived = format!("archive 0 length 8 output {output} map {entries}");
+    assert_eq!(lines[0], archived);
+    let lines = &lines[1..];
     let map = "ffffffffffffffffffffffffffffffff00000000000000010000000200000000";
     let loaded = format!("load 0 place 0 0 map {map} start 0 store ");
     assert!(lines[0].starts_with(&loaded), "{}", lines[0]);
@@ -1487,7 +1693,12 @@ fn an_outcome_has_the_place() {
     let text = replay(&case, &mut ()).to_string();
     let unmarked = "ffffffff".repeat(10);
     let loaded = format!("load 13 place 1 1 map {unmarked}00000000 start 9 ");
+    let (archived, text) = text.split_once('\n').unwrap();
     assert!(text.starts_with(&loaded), "{text}");
+    // Archive names none. Without an output its sums are those of nothing.
+    let entries = Checksum::of(&[&[65_535; 20][..], &[0, 0]].concat());
+    let expected = format!("archive 13 length 0 output 1 1 map {entries}");
+    assert_eq!(archived, expected);
 }
 
 /// The stack is printed up to its last word that is not 0.

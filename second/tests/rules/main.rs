@@ -1,10 +1,12 @@
 //! The rules of the paper, one file a subject. Expected values are worked out
 //! by hand from the paper's sentences.
 
+mod archive;
 mod channel_kinds;
 mod channels;
 mod commands;
 mod depths;
+mod form_kinds;
 mod generated;
 mod instructions;
 mod kinds;

@@ -5,10 +5,10 @@ use Rattle.vectors.proofs.replay.cases.Statement.{statement}
 use Rattle.vectors.proofs.replay.cases.Tie as tie
 
 abbrev Inv-loop : tie.InvT-loop
-Inv-loop buffer₀ begun text₀ image₀ map₀ store₀ places₀ k₀ buffer text image map store places k = Unit {0}
+Inv-loop buffer₀ begun text₀ image₀ map₀ output₀ store₀ places₀ k₀ buffer text image map output store places k = Unit {0}
 
 abbrev μ-loop : tie.MeasureT-loop
-μ-loop buffer₀ begun text₀ image₀ map₀ store₀ places₀ k₀ buffer text image map store places k = begun .number - k
+μ-loop buffer₀ begun text₀ image₀ map₀ output₀ store₀ places₀ k₀ buffer text image map output store places k = begun .number - k
 
 loop-holds : tie.Need-loop-holds Inv-loop μ-loop
 loop-holds c = tt

@@ -1,0 +1,5 @@
+pub mod Puts
+pub mod Needed
+pub mod Pieces
+pub mod Modules
+pub mod Answers

@@ -8,5 +8,6 @@ pub mod fault;
 pub mod files;
 pub mod number;
 pub mod options;
+pub mod plain;
 pub mod print;
 pub mod words;

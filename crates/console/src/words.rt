@@ -10,7 +10,7 @@ fn module_count(fd: i32) -> bool {
     false
 }
 
-// A refusal, 1 to 13.
+// A refusal, 1 to 14.
 pub fn refusal(fd: i32, number: u16) -> bool {
     match number {
         1 => io::write_all(fd, b"image of 0 or over 65,535 bytes"),
@@ -26,6 +26,7 @@ pub fn refusal(fd: i32, number: u16) -> bool {
         11 => io::write_all(fd, b"not a machine"),
         12 => io::write_all(fd, b"map does not fit"),
         13 => io::write_all(fd, b"the code is not whole"),
+        14 => io::write_all(fd, b"output shorter than the form"),
         _ => io::write_all(fd, b"no such refusal"),
     }
 }

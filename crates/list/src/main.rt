@@ -6,60 +6,26 @@ mod show;
 
 use console::files::Filled;
 use console::files::contents;
-use console::options::Argument;
-use console::options::kind;
+use console::plain::Asked;
+use console::plain::read_arguments;
 use console::print::Place;
-use console::print::complaint;
 use console::print::refusal;
-use console::print::unreadable;
 use libc::STDERR_FILENO;
 use listing::block::Block;
 use listing::block::flush;
 use listing::block::text;
 
-// What an argument is.
-enum Asked {
-    Help,
-    File,
-    Bad,
-}
-
-// A bad argument is told on standard error.
-fn word(i: usize) -> Asked {
-    let mut buffer = io::buffer();
-    let n = os::arg(i, &mut buffer);
-    let text = &buffer[..n];
-    if os::errno() != 0 {
-        unreadable(b"list", b"argument");
-        return Asked::Bad;
-    }
-    match kind(text) {
-        Argument::Help => Asked::Help,
-        Argument::File => Asked::File,
-        _ => unknown(text),
-    }
-}
-
-fn unknown(text: &[u8]) -> Asked {
-    complaint(b"list", text, b"no such option (--help lists them)");
-    Asked::Bad
-}
-
 // Whether there are files to list, and all arguments are good.
 fn is_asked(count: usize) -> bool {
-    let mut i = 1usize;
-    while i < count {
-        match word(i) {
-            Asked::Help => {
-                help::put_help();
-                return false;
-            }
-            Asked::File => {}
-            Asked::Bad => {
-                return false;
-            }
+    match read_arguments(b"list", 1, count) {
+        Asked::Help => {
+            help::put_help();
+            return false;
         }
-        i += 1;
+        Asked::Files => {}
+        Asked::Bad => {
+            return false;
+        }
     }
     if count < 2 {
         help::put_usage(STDERR_FILENO);

@@ -1,14 +1,14 @@
 -- Safe, and ends.
 use Prim.Native.Nat.{_-_}
 use borrow.Author.Needs.{needs}
-use Rattle.list.proofs.is_asked.Statement.{statement}
-use Rattle.list.proofs.is_asked.Tie as tie
+use Rattle.console.proofs.plain.read_arguments.Statement.{statement}
+use Rattle.console.proofs.plain.read_arguments.Tie as tie
 
 abbrev Inv-loop : tie.InvT-loop
-Inv-loop count i₀ i = Unit {0}
+Inv-loop program from count i₀ i = Unit {0}
 
 abbrev μ-loop : tie.MeasureT-loop
-μ-loop count i₀ i = count - i
+μ-loop program from count i₀ i = count - i
 
 loop-holds : tie.Need-loop-holds Inv-loop μ-loop
 loop-holds c = tt
@@ -18,9 +18,6 @@ word-requires c κs = search needs
 
 enum-told : tie.Need-enum-told Inv-loop μ-loop
 enum-told c = search needs
-
-put-help-requires : tie.Need-put-help-requires Inv-loop μ-loop
-put-help-requires c κs = search needs
 
 returns : tie.Need-returns Inv-loop μ-loop
 returns c = search needs
@@ -43,17 +40,11 @@ loop-less c = search needs
 loop-again : tie.Need-loop-again Inv-loop μ-loop
 loop-again c = tt
 
-put-usage-requires : tie.Need-put-usage-requires Inv-loop μ-loop
-put-usage-requires c κs = search needs
-
 returns-3 : tie.Need-returns-3 Inv-loop μ-loop
 returns-3 c = search needs
 
-returns-4 : tie.Need-returns-4 Inv-loop μ-loop
-returns-4 c = search needs
-
-pub is-asked-spec : {M : Type 1} → statement M
-is-asked-spec =
+pub read-arguments-spec : {M : Type 1} → statement M
+read-arguments-spec =
     tie.close
     (tie.spec
     Inv-loop
@@ -61,7 +52,6 @@ is-asked-spec =
     loop-holds
     word-requires
     enum-told
-    put-help-requires
     returns
     enum-told-2
     enum-told-3
@@ -69,6 +59,4 @@ is-asked-spec =
     add-i
     loop-less
     loop-again
-    put-usage-requires
-    returns-3
-    returns-4)
+    returns-3)

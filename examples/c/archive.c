@@ -3,6 +3,7 @@
 #include <stdio.h>
 
 #include "cembuxola.h"
+#include "file.h"
 
 /* One byte more than an image may have, so that a longer file is refused as such. */
 #define MOST_BYTES 65536
@@ -22,18 +23,10 @@ int main(int count, char **arguments)
         return 2;
     }
     const char *name = arguments[1];
-    FILE *file = fopen(name, "rb");
-    if (file == NULL) {
-        perror(name);
+    long length = read_file(name, image, MOST_BYTES);
+    if (length < 0)
         return 2;
-    }
-    size_t length = fread(image, 1, MOST_BYTES, file);
-    if (ferror(file)) {
-        perror(name);
-        return 2;
-    }
-    fclose(file);
-    unsigned number = cembuxola_archive(image, length, map, MOST_ENTRIES, out, MOST_OUT, written, CEMBUXOLA_WRITTEN_NUMBERS);
+    unsigned number = cembuxola_archive(image, (size_t)length, map, MOST_ENTRIES, out, MOST_OUT, written, CEMBUXOLA_WRITTEN_NUMBERS);
     if (number != CEMBUXOLA_ACCEPTED) {
         fprintf(stderr, "%s: refused %u\n", name, number);
         return 1;

@@ -10,6 +10,7 @@
 #include <string.h>
 
 #include "cembuxola.h"
+#include "file.h"
 
 #define WORDS 4096
 #define STEPS 1000
@@ -180,16 +181,8 @@ int main(int count, char **arguments)
         return 2;
     }
     const char *name = arguments[count - 1];
-    FILE *file = fopen(name, "rb");
-    if (file == NULL) {
-        perror(name);
+    long length = read_file(name, image, MOST_BYTES);
+    if (length < 0)
         return 2;
-    }
-    size_t length = fread(image, 1, MOST_BYTES, file);
-    if (ferror(file)) {
-        perror(name);
-        return 2;
-    }
-    fclose(file);
-    return read_and_run(name, length, word, after);
+    return read_and_run(name, (size_t)length, word, after);
 }

@@ -16,7 +16,7 @@ fn refused(number: u16) -> Delivered
 }
 
 // Load's refusal, or 14 where the output is shorter than the form, or 0 and the form's length. The map is left as load leaves it. A
-// refusal leaves the output as it was, and so is what lies past the form.
+// refusal leaves the output as it was, and what lies past the form stays.
 pub fn archive(image: &[u8], map: &mut [u32], output: &mut [u8]) -> Delivered
     ensures { λ r. ⌜ Archives (now (image .entry)) (now (map .entry)) (now (output .entry)) (now (map .exit)) (delivery r (now (output .exit))) ⌝ }
 {

@@ -9,14 +9,14 @@ use lib.ListN.{length, getD, drop, length-drop, length-append}
 use lib.Seq.{drop-cons}
 use lib.Dec.{eqb}
 use borrow.Author.Tests.{eq-eqb, ne-eqb, eqb-false}
-use Rattle.mcode.specs.Word.{pick, and, truth, byte, word}
+use Rattle.mcode.specs.Word.{pick, and, truth, byte}
 use Rattle.mcode.specs.Image.{procCount, entryOf, paramsOf, resultsOf}
 use Rattle.mcode.specs.Layout.{Lies}
 use Rattle.mcode.specs.Archive.{Content, procedureOf, nameOf, contentAt, wordBytes, recordsBytes, Bits, bitMap, given, spelled, default, zeros, needed, moduleForm}
 use Rattle.mcode.specs.declared.Module.{Module}
 use Rattle.mcode.proofs.Tabulate.{length-tabulate}
 use Rattle.mcode.proofs.FormOf.{length-records, length-code, length-name}
-use Rattle.mcode.proofs.FormPieces.{default-tabulate}
+use Rattle.mcode.proofs.FormPieces.{default-tabulate, no-records}
 use Rattle.archive.specs.declared.fields.Fields.{Fields}
 use Rattle.archive.specs.Form.{bits, procsOf}
 
@@ -42,19 +42,11 @@ picked true n r e = omega (arith, e)
 picked false n r e = omega (arith, e)
 
 pub bit-map-is : (s l n : Bool) (i j k : ℕ) → i ≡ pick s 1 0 → j ≡ pick l 2 0 → k ≡ pick n 4 0 → i + j + k ≡ bitMap (record { sized = s; listing = l; named = n })
-bit-map-is s l n i j k a b c = omega (arith, one s i a, two l j b, four n k c)
+bit-map-is s l n i j k a b c = omega (arith, weight s 1 i a, weight l 2 j b, weight n 4 k c)
   where
-    one : (b : Bool) (i : ℕ) → i ≡ pick b 1 0 → i ≡ truth b
-    one true i e = e
-    one false i e = e
-
-    two : (b : Bool) (i : ℕ) → i ≡ pick b 2 0 → i ≡ 2 * truth b
-    two true i e = e
-    two false i e = e
-
-    four : (b : Bool) (i : ℕ) → i ≡ pick b 4 0 → i ≡ 4 * truth b
-    four true i e = e
-    four false i e = e
+    weight : (b : Bool) (w i : ℕ) → i ≡ pick b w 0 → i ≡ w * truth b
+    weight true w i e = omega (arith, e)
+    weight false w i e = omega (arith, e)
 
 -- ---- the single default procedure
 
@@ -104,12 +96,8 @@ given-length false xs k r e q = sym q
 pub listed-some : (image : List ℕ) (m : Module) → default (procsOf image m) ≡ false → procCount m ≡ m .procs
 listed-some image m d = go (eqb (m .procs) 0) refl
   where
-    none : (t : Bool) → t ≡ true
-        → and (eqb (pick t 1 (m .procs)) 1) (and (eqb (pick t 0 (word image (m .table + 4 * 0))) 0) (and (eqb (pick t 0 (byte image (m .table + 4 * 0 + 2))) 0) (eqb (pick t 0 (byte image (m .table + 4 * 0 + 3))) 0))) ≡ true
-    none t e = rw e refl
-
     go : (t : Bool) → eqb (m .procs) 0 ≡ t → procCount m ≡ m .procs
-    go true e = absurd (true≢false (sym (default-tabulate (procCount m) (procedureOf image m) ∙ none (eqb (m .procs) 0) e) ∙ d))
+    go true e = absurd (true≢false (sym (default-tabulate (procCount m) (procedureOf image m) ∙ no-records image m e) ∙ d))
     go false e = rw e refl
 
 module _ (image : List ℕ) (at : ℕ) (m : Module) (L : Lies image at m) where

@@ -1,6 +1,5 @@
 -- The statements of A.11. Assumes nothing.
 use mathlib.Core.Path.{refl, sym, ap, _∙_}
-use native.Mathlib.Omega.{arith}
 use lib.Dec.{leb}
 use Rattle.mcode.specs.declared.Verdict.{Verdict}
 use Rattle.mcode.specs.Word.{pick}
@@ -41,18 +40,17 @@ unfolding SameLoaded
 same-loaded image before map L image′ r′ e = loads-same image image′ (passed image before map (verdict 0) L refl .parsed) r′ e before map L
 
 pub form-loads : FormLoads
-unfolding FormLoads SameLoaded FormRead FormShort
-form-loads image before map L before′ v map′ l =
-    let r = passed image before map (verdict 0) L refl .parsed in
-    let (q, e) = form-read image r in
-    same-loaded image before map L (form (contents image)) q e before′ v map′ (omega (arith, l, form-is-short image r))
+unfolding FormLoads SameLoaded FormRead
+form-loads image before map L =
+    let (q, e) = form-read image (passed image before map (verdict 0) L refl .parsed) in
+    same-loaded image before map L (form (contents image)) q e
 
 pub form-accepted : FormAccepted
-unfolding FormAccepted FormRead FormShort
-form-accepted image before map L before′ l =
+unfolding FormAccepted FormRead
+form-accepted image before map L =
     let r = passed image before map (verdict 0) L refl .parsed in
     let (q, e) = form-read image r in
-    loads-again image (form (contents image)) r q e before map L before′ (omega (arith, l, form-is-short image r))
+    loads-again image (form (contents image)) r q e before map L
 
 pub archive-determined : ArchiveDetermined
 unfolding ArchiveDetermined LoadDetermined

@@ -42,6 +42,14 @@ default-tabulate zero f = refl
 default-tabulate (suc zero) f = refl
 default-tabulate (suc (suc n)) f = rw (ne-eqb (suc (suc n)) 1 (λ z. omega (arith, z))) refl
 
+-- with no records there is the default one
+pub no-records : (image : List ℕ) (m : Module) → eqb (m .procs) 0 ≡ true → defaulted image m ≡ true
+no-records image m e = by (eqb (m .procs) 0) e
+  where
+    by : (t : Bool) → t ≡ true
+        → and (eqb (pick t 1 (m .procs)) 1) (and (eqb (pick t 0 (word image (m .table + 4 * 0))) 0) (and (eqb (pick t 0 (byte image (m .table + 4 * 0 + 2))) 0) (eqb (pick t 0 (byte image (m .table + 4 * 0 + 3))) 0))) ≡ true
+    by t e = rw e refl
+
 drop-four : (s : List ℕ) (t : ℕ) → t + 4 ≤ length s → drop t s ≡ byte s t ∷ byte s (t + 1) ∷ byte s (t + 2) ∷ byte s (t + 3) ∷ drop (t + 4) s
 drop-four s t l =
     let e₁ : suc t ≡ t + 1 = omega arith in
@@ -78,11 +86,6 @@ module _ (image : List ℕ) (B : Bytes image) where
     abbrev procs : List Procedure
     procs = tabulate (procCount m) (procedureOf image m)
 
-    -- with no records there is the default one
-    no-records : (t : Bool) → t ≡ true
-        → and (eqb (pick t 1 (m .procs)) 1) (and (eqb (pick t 0 (word image (m .table + 4 * 0))) 0) (and (eqb (pick t 0 (byte image (m .table + 4 * 0 + 2))) 0) (eqb (pick t 0 (byte image (m .table + 4 * 0 + 3))) 0))) ≡ true
-    no-records t e = rw e refl
-
     counted : eqb (m .procs) 0 ≡ false → procCount m ≡ m .procs
     counted e = ap (λ (t : Bool). pick t 1 (m .procs)) e
 
@@ -91,7 +94,7 @@ module _ (image : List ℕ) (B : Bytes image) where
     given-same x y h = go (eqb (m .procs) 0) refl
       where
         go : (t : Bool) → eqb (m .procs) 0 ≡ t → given (not (defaulted image m)) x ≡ given (not (defaulted image m)) y
-        go true e = let d : defaulted image m ≡ true = no-records (eqb (m .procs) 0) e in rw d refl
+        go true e = rw (no-records image m e) refl
         go false e = ap (given (not (defaulted image m))) (h e)
 
     given-count : given (not (defaulted image m)) (length procs ∷ []) ≡ given (not (defaulted image m)) (m .procs ∷ [])

@@ -63,18 +63,18 @@ SameLoaded =
     → (before′ : List ℕ) (v : Verdict) (map′ : List ℕ) → length image′ ≤ length before′ → Loads image′ before′ v map′
     → (v ≡ verdict 0) × SameMarks image map image′ map′
 
--- So with the form: "The form loads".
+-- So with the form: "The form loads", by a map that is as long as the form is.
 unfoldable pub FormLoads : Type 0
 FormLoads =
     (image before map : List ℕ) → Loads image before (verdict 0) map
-    → (before′ : List ℕ) (v : Verdict) (map′ : List ℕ) → length image ≤ length before′ → Loads (form (contents image)) before′ v map′
+    → (before′ : List ℕ) (v : Verdict) (map′ : List ℕ) → length (form (contents image)) ≤ length before′ → Loads (form (contents image)) before′ v map′
     → (v ≡ verdict 0) × SameMarks image map (form (contents image)) map′
 
 -- And there is such a map: load does accept it.
 unfoldable pub FormAccepted : Type 0
 FormAccepted =
     (image before map : List ℕ) → Loads image before (verdict 0) map
-    → (before′ : List ℕ) → length image ≤ length before′ → (map′ : List ℕ) × Loads (form (contents image)) before′ (verdict 0) map′
+    → (before′ : List ℕ) → length (form (contents image)) ≤ length before′ → (map′ : List ℕ) × Loads (form (contents image)) before′ (verdict 0) map′
 
 -- The answer, the map and the output are determined.
 unfoldable pub ArchiveDetermined : Type 0

@@ -1,4 +1,5 @@
 // Whether two images hold the same modules, and if not, what differs first.
+#![tactic(auto)]
 pub mod modules;
 pub mod values;
 

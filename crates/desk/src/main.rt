@@ -2,6 +2,7 @@
 // n = 1,000. A refusal prints one line: `refused` and its number. "The desk program's map has 16,384 entries, so a longer image that
 // passes the earlier checks prints refusal 7." Where standard input cannot be read, it prints nothing, and a line on standard error
 // says why.
+#![tactic(auto)]
 use console::files::Filled;
 use console::{files, print};
 use in_place::reading::reading;

@@ -110,11 +110,11 @@ record-law {s} {at} code_length limit p ps xs L R =
 records-law : {s : List ℕ} {at : ℕ} (code_length limit : ℕ) (ps : List Procedure) (xs : List ℕ) → Ranged code_length limit ps
     → Rest s at (records_bytes ps ++ xs) → records_at s code_length limit (length ps) at ≡ Got 0 (at + length (records_bytes ps))
 unfolding records_at
-records-law {s} {at} code_length limit [] xs L R = rw (add-zero at) refl
-records-law {s} {at} code_length limit (p ∷ ps) xs L R =
+records-law {s = s} {at = at} code_length limit [] xs L R = rw (add-zero at) refl
+records-law {s = s} {at = at} code_length limit (p ∷ ps) xs L R =
     let R₄ : Rest s (at + 4) (records_bytes ps ++ xs) = behind (record_bytes p) R in
     let e : at + 4 + length (records_bytes ps) ≡ at + suc (suc (suc (suc (length (records_bytes ps))))) = omega arith in
-    rw (record-law code_length limit p ps (records_bytes ps ++ xs) L R, records-law code_length 16 ps xs L.3 R₄) (ap (Got 0) e)
+    rw (record-law code_length limit p ps (records_bytes ps ++ xs) L R, records-law {at = at + 4} code_length 16 ps xs L.3 R₄) (ap (Got 0) e)
 
 -- record i of those from `at` on
 abbrev record_of : List ℕ → ℕ → ℕ → Procedure
@@ -122,12 +122,12 @@ record_of s at i = record { entry = word s (at + 4 * i); params = byte s (at + 4
 
 records-are : {s : List ℕ} {at : ℕ} (ps : List Procedure) (xs : List ℕ) → Rest s at (records_bytes ps ++ xs) → tabulate (length ps) (record_of s at) ≡ ps
 unfolding tabulate
-records-are {s} {at} [] xs R = refl
-records-are {s} {at} (p ∷ ps) xs R =
+records-are {s = s} {at = at} [] xs R = refl
+records-are {s = s} {at = at} (p ∷ ps) xs R =
     let R₄ : Rest s (at + 4) (records_bytes ps ++ xs) = behind (record_bytes p) R in
     let e₀ : at + 4 * 0 ≡ at = omega arith in
     let d : record_of s at 0 ≡ p = rw (e₀, word-is p.entry R, rest_at R 2, rest_at R 3) refl in
-    rw (d, tabulate-same (length ps) (λ i. record_of s at (suc i)) (record_of s (at + 4)) (λ i l. let e : at + 4 * suc i ≡ at + 4 + 4 * i = omega arith in rw e refl), records-are ps xs R₄) refl
+    rw (d, tabulate-same (length ps) (λ i. record_of s at (suc i)) (record_of s (at + 4)) (λ i l. let e : at + 4 * suc i ≡ at + 4 + 4 * i = omega arith in rw e refl), records-are {at = at + 4} ps xs R₄) refl
 
 -- ---- a module
 

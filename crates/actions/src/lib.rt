@@ -7,7 +7,7 @@ pub const TABLE_WORDS: usize = 6 * MOST_MODULES + 1;
 
 // The registers as the stepping loop holds them: those of mcode, with the start of the module's code in the image and its base;
 // pc is the place in the image, the start and the position.
-#[derive(Drop)]
+#[derive(Clone, Copy)]
 pub struct Core {
     pub pc: usize,
     pub depth: usize,
@@ -22,7 +22,7 @@ pub struct Core {
 }
 
 // What a step answers: 0 and the registers after it, or a stop.
-#[derive(Drop)]
+#[derive(Clone, Copy)]
 pub struct Stepped {
     pub stop: u32,
     pub code: u16,

@@ -9,7 +9,7 @@ ghost use Rattle.archive.specs.Form.{bits, procs_of};
 use depths::rules::{entry_of, params_of, results_of};
 use mcode::Module;
 
-#[derive(Drop)]
+#[derive(Clone, Copy)]
 pub struct Fields {
     pub sized: bool,
     pub listing: bool,

@@ -7,7 +7,7 @@ ghost use Rattle.std.specs.Prelude.{◌≡◌};
 ghost use Rattle.compare.specs.Facts.{first_difference};
 
 // What differs first between the modules of two images, if anything.
-#[derive(Drop)]
+#[derive(Clone, Copy)]
 pub enum Part {
     Nothing,
     Modules,
@@ -22,7 +22,7 @@ pub enum Part {
 }
 
 // What differs, in which module, at which procedure, byte of the name or position of the code, and what either image has there.
-#[derive(Drop)]
+#[derive(Clone, Copy)]
 pub struct Difference {
     pub part: Part,
     pub unit: usize,

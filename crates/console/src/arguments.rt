@@ -7,7 +7,7 @@ use crate::options::{Argument, Choice, Options};
 use crate::{options, print};
 
 // The option whose value comes next.
-#[derive(Drop)]
+#[derive(Clone, Copy)]
 pub enum Awaited {
     Nothing,
     Steps,
@@ -20,7 +20,7 @@ pub enum Awaited {
 
 // The options so far, and how many files are named: 0, 1, or 2 for several. Whether help is asked, and whether an argument was bad:
 // each of these ends it.
-#[derive(Drop)]
+#[derive(Clone, Copy)]
 pub struct Asked {
     pub options: Options,
     pub files: usize,

@@ -11,7 +11,7 @@ use mcode::{MOST_MODULES, Machine};
 const COPIES_END: usize = Machine::BASE_COPY + MOST_MODULES;
 
 // The trap's number, 0 where none is told of; the process that was left; the module and the position in it.
-#[derive(Drop)]
+#[derive(Clone, Copy)]
 pub struct Caught {
     pub number: u16,
     pub process: u16,
@@ -114,7 +114,7 @@ pub fn caught_in(image: &[u8], store: &[u16]) -> Caught
 
 // A step: P before and after it, the line that was due, or 0, and the requests before and after; the opcode where it began, and the two
 // words on top of the stack.
-#[derive(Drop)]
+#[derive(Clone, Copy)]
 pub struct Turn {
     pub p: u16,
     pub q: u16,

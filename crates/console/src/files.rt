@@ -6,7 +6,7 @@ use crate::print;
 use libc::STDIN_FILENO;
 
 // How many bytes were read, or that a read failed (`os::errno` says why).
-#[derive(Drop)]
+#[derive(Clone, Copy)]
 pub enum Filled {
     Bytes(usize),
     Failed,

@@ -4,7 +4,7 @@ ghost use Rattle.mcode.specs.Word.{pick};
 ghost use Rattle.console.specs.Decimals.{number_of};
 
 // What a text says: a number, or none.
-#[derive(Drop)]
+#[derive(Clone, Copy)]
 pub enum Number {
     Is(u32),
     Bad,

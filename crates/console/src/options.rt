@@ -6,7 +6,7 @@ use crate::number::{Number, decimal};
 use mcode::{Ending, Stop};
 
 // `given` has bit i where input channel i was given; the others are left at 0.
-#[derive(Drop)]
+#[derive(Clone, Copy)]
 pub struct Options {
     pub steps: u32,
     pub store: usize,
@@ -32,7 +32,7 @@ pub fn defaults() -> Options
 }
 
 // What one argument is: the name of an option, with its value or without it, an option that there is not, or a file.
-#[derive(Drop)]
+#[derive(Clone, Copy)]
 pub enum Argument {
     Help,
     Steps,
@@ -136,7 +136,7 @@ pub fn kind(text: &[u8]) -> Argument
 }
 
 // What the value of an option asks, or that it is bad.
-#[derive(Drop)]
+#[derive(Clone, Copy)]
 pub enum Choice {
     Steps(u32),
     Store(usize),

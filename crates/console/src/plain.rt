@@ -3,7 +3,7 @@ use crate::options::{Argument, kind};
 use crate::print::{complaint, unreadable};
 
 // What arguments ask for: the program's help, their files, or nothing where one of them is bad.
-#[derive(Drop)]
+#[derive(Clone, Copy)]
 pub enum Asked {
     Help,
     Files,

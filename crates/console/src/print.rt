@@ -123,7 +123,7 @@ pub fn refused(refusal: u16) {
 }
 
 // Where a refusal lies: unknown, at a byte of the image, in a module at a byte of the image, or in the code of a module.
-#[derive(Drop)]
+#[derive(Clone, Copy)]
 pub enum Place {
     Unknown,
     Byte(usize),

@@ -16,7 +16,7 @@ use marks::UNMARKED;
 use mcode::{Flow, MOST_MODULES, Module};
 
 // The queue's end after a visit, or a mark that cannot be.
-#[derive(Drop)]
+#[derive(Clone, Copy)]
 pub enum Visit {
     Clash,
     Tail(usize),
@@ -44,7 +44,7 @@ fn enqueue(map: &mut [u32], work: &mut [u16], t: usize, q: usize, d: u32) -> Vis
 }
 
 // Where the search goes on: nowhere, or the queue's end, and the position whose turn is next with its mark, if one waits.
-#[derive(Drop)]
+#[derive(Clone, Copy)]
 pub enum Turn {
     Stop,
     Next(usize, usize, u32),

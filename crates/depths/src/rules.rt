@@ -315,7 +315,7 @@ pub fn moved(op: u8, k: u32, n: usize) -> Flow
 }
 
 // The next position and the mark that an instruction's row leaves, where its operands lie in the code and both depths are possible.
-#[derive(Drop)]
+#[derive(Clone, Copy)]
 pub enum Row {
     Unfit,
     Next(usize, u32),

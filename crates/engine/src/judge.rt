@@ -9,7 +9,7 @@ use loader::start::store_fits;
 use mcode::{Machine, Registers};
 
 // What run makes of its arguments: the number of the refusal, or 0 and the program's numbers.
-#[derive(Drop)]
+#[derive(Clone, Copy)]
 pub struct Judged {
     pub refusal: u16,
     pub table: [u16; TABLE_WORDS],

@@ -10,7 +10,7 @@ use loader::start::zero_machine;
 use mcode::{Ending, Machine};
 
 // How a run ended, its count of steps, the machine, what is left of the requests, and the word of the input channels that its READs took.
-#[derive(Drop)]
+#[derive(Clone, Copy)]
 pub struct Ran {
     pub ending: Ending,
     pub count: u32,

@@ -8,7 +8,7 @@ use loader::load::load;
 use loader::start::start;
 
 // The number of load's or start's refusal, or 0, and the answers of the two runs.
-#[derive(Drop)]
+#[derive(Clone, Copy)]
 pub struct TwoRuns {
     pub number: u16,
     pub first: Ran,

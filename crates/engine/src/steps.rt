@@ -17,7 +17,7 @@ use execute::turn;
 use mcode::{Machine, Stop};
 
 // Where a stretch of instructions stopped: the number of the stop with its code, the count of instructions, and the registers.
-#[derive(Drop)]
+#[derive(Clone, Copy)]
 struct Halted {
     number: u32,
     code: u16,
@@ -67,7 +67,7 @@ fn instructions(
 
 // How a turn of one of the outer loops ends: 0 where it goes on, or the number of a stop with its code; how many steps are left to do,
 // what is left of the requests, and the registers.
-#[derive(Drop)]
+#[derive(Clone, Copy)]
 struct Advanced {
     stop: u32,
     code: u16,
@@ -246,7 +246,7 @@ fn attempts(
 }
 
 // Where the run stopped: the stop, the count of steps, the machine, what is left of the requests, and the word of the channels that it took.
-#[derive(Drop)]
+#[derive(Clone, Copy)]
 pub struct Stopping {
     pub stop: Stop,
     pub count: u32,

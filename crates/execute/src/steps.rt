@@ -20,7 +20,7 @@ use mcode::{Address, Machine, Position, Registers};
 
 // What a step leaves: 0 and the machine after it, or a stop with its code and the machine as it was; and the bit of the input channel that
 // it took, or 0.
-#[derive(Drop)]
+#[derive(Clone, Copy)]
 pub struct Next {
     pub stop: u32,
     pub code: u16,

@@ -15,7 +15,7 @@ use walk::causes::cause_at;
 
 // A module, a position in its code and the opcode there, with: the cause of 13; the two marks that meet; a mark that the rules do not
 // allow; such a mark at a call, and the parameters of the procedure that it names.
-#[derive(Drop)]
+#[derive(Clone, Copy)]
 pub enum Why {
     Unknown,
     Fault(u8, u16, u8, Cause),

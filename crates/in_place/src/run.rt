@@ -15,7 +15,7 @@ use engine::stops::stop_of;
 use mcode::{Ending, Machine};
 
 // Where the stepping loop stopped: the stop with its code, the count of steps, the machine, and the word of the channels that it took.
-#[derive(Drop)]
+#[derive(Clone, Copy)]
 struct Halted {
     stop: Halt,
     count: u32,

@@ -13,7 +13,7 @@ use actions::TABLE_WORDS;
 use mcode::Machine;
 
 // What a step answers: 0 where it went on, or a stop with its code; and the bit of the input channel that it took, or 0.
-#[derive(Drop)]
+#[derive(Clone, Copy)]
 pub struct Halt {
     pub stop: u32,
     pub code: u16,

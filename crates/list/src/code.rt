@@ -114,7 +114,7 @@ fn put_note(out: &mut Block, used: &mut usize, note: u32) {
 }
 
 // The next position to look at, and the end of what the lines before it show.
-#[derive(Drop)]
+#[derive(Clone, Copy)]
 struct Place {
     at: usize,
     shown: usize,

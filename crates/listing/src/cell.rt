@@ -5,7 +5,7 @@ ghost use Rattle.listing.specs.Cell.{text_of, number_text, results_text, saves_t
 use marks::{depth_of, list_of, promised_of, saves_of};
 
 // The letters are the first `count`. No entry has more than 25, of whatever bits it is.
-#[derive(Drop)]
+#[derive(Clone, Copy)]
 pub struct Cell {
     pub letters: [u8; 25],
     pub count: usize,

@@ -9,7 +9,7 @@ use mcode::Module;
 
 // The opcode, its length (0: it is not listed, or its operands do not lie in the code), the four bytes after it, and for a jump the
 // position that it goes to, else 0.
-#[derive(Drop)]
+#[derive(Clone, Copy)]
 pub struct Instruction {
     pub op: u8,
     pub size: u8,
@@ -21,7 +21,7 @@ pub struct Instruction {
 }
 
 // What an opcode's operands are: none, a byte, a word, two words, a jump's distance, module and byte, procedure, module and procedure.
-#[derive(Drop)]
+#[derive(Clone, Copy)]
 pub enum Operand {
     Nothing,
     Byte,

@@ -7,7 +7,7 @@ ghost use Rattle.listing.specs.First.{first_from, enters};
 use crate::bytes::{byte_from, word_of};
 use mcode::Module;
 
-#[derive(Drop)]
+#[derive(Clone, Copy)]
 pub struct Procedure {
     pub entry: u16,
     pub params: u8,

@@ -11,7 +11,7 @@ ghost use Rattle.loader.specs.Begin.{begun, Roomy, registers_at};
 use mcode::{Address, Machine, Position, Program, Registers};
 
 // The number of the refusal, or 0, and the machine: of zeros where start refuses.
-#[derive(Drop)]
+#[derive(Clone, Copy)]
 pub struct Started {
     pub number: u16,
     pub machine: Machine,

@@ -5,16 +5,16 @@ ghost use Rattle.mcode.specs.Image.{base_copy, margin};
 ghost use Rattle.mcode.specs.Machine.{stop_number, stop_code};
 
 // A place in the data store, counted in words.
-#[derive(Drop)]
+#[derive(Clone, Copy)]
 pub struct Address(pub u16);
 
 // A place in a module's code, counted in bytes.
-#[derive(Drop)]
+#[derive(Clone, Copy)]
 pub struct Position(pub u16);
 
 // The registers: module number, position, frame L, stack pointer S, limit H, process P, mask M, and how many words the
 // expression stack has.
-#[derive(Drop)]
+#[derive(Clone, Copy)]
 pub struct Registers {
     pub unit: u8,
     pub pc: Position,
@@ -26,7 +26,7 @@ pub struct Registers {
     pub depth: usize,
 }
 
-#[derive(Drop)]
+#[derive(Clone, Copy)]
 pub struct Machine {
     pub registers: Registers,
     pub stack: [u16; 16],
@@ -57,7 +57,7 @@ impl Machine {
 }
 
 // Why a run stopped. Program holds the program's own code.
-#[derive(Drop)]
+#[derive(Clone, Copy)]
 pub enum Stop {
     Spent,
     Ended,
@@ -111,14 +111,14 @@ pub fn stop_code(stop: Stop) -> u16
 }
 
 // How a run answers: refused, with the refusal's number, or stopped.
-#[derive(Drop)]
+#[derive(Clone, Copy)]
 pub enum Ending {
     Refused(u16),
     Stopped(Stop),
 }
 
 // What load answers: the number of the refusal, or 0; with 13 the module and the position at fault, which are both 0 in any other answer.
-#[derive(Drop)]
+#[derive(Clone, Copy)]
 pub struct Verdict {
     pub number: u16,
     pub unit: u8,
@@ -126,7 +126,7 @@ pub struct Verdict {
 }
 
 // What a call that fills an output slice answers: the number of the refusal, or 0, and the length written, 0 where it refuses.
-#[derive(Drop)]
+#[derive(Clone, Copy)]
 pub struct Delivered {
     pub number: u16,
     pub length: usize,
@@ -134,7 +134,7 @@ pub struct Delivered {
 
 // What is wrong with an instruction, whatever the depth: nothing, its opcode is not listed, its operands lie outside the code, a module or
 // a procedure that it names is missing, or a successor lies outside the code.
-#[derive(Drop)]
+#[derive(Clone, Copy)]
 pub enum Cause {
     Nothing,
     Opcode,
@@ -145,7 +145,7 @@ pub enum Cause {
 
 // A module of an image: where its code begins in the image and how long it is, the words of its data, its base in the store,
 // the count of its procedure records (0: none, and procedure 0 enters at 0), and where they begin in the image.
-#[derive(Drop)]
+#[derive(Clone, Copy)]
 pub struct Module {
     pub code: usize,
     pub length: u16,
@@ -167,14 +167,14 @@ pub struct Program {
 }
 
 // What reading one part of an image finds: its value and the next position, or a refusal.
-#[derive(Drop)]
+#[derive(Clone, Copy)]
 pub enum Part {
     Got(u16, usize),
     Refused(u16),
 }
 
 // What reading one module finds.
-#[derive(Drop)]
+#[derive(Clone, Copy)]
 pub enum Head {
     Read(Module, usize),
     Refused(u16),
@@ -188,7 +188,7 @@ pub struct Parsed {
 }
 
 // What follows an instruction at a depth: it breaks a rule, it has no successor, or successors with their marks.
-#[derive(Drop)]
+#[derive(Clone, Copy)]
 pub enum Flow {
     Fault,
     Ends,
@@ -197,7 +197,7 @@ pub enum Flow {
 }
 
 // A computed word, or the trap that stands in its place.
-#[derive(Drop)]
+#[derive(Clone, Copy)]
 pub enum Value {
     Is(u16),
     Fault(Stop),

@@ -10,7 +10,7 @@ use console::options;
 use console::print::{complaint, too_long};
 
 // Whether the value of --vary comes next.
-#[derive(Drop)]
+#[derive(Clone, Copy)]
 pub struct Wanted {
     pub asked: Asked,
     pub varying: bool,

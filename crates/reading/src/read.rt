@@ -8,7 +8,7 @@ use engine::run::{Ran, run};
 use in_place::reading::reading;
 
 // How a reading ended, and what is left of the requests.
-#[derive(Drop)]
+#[derive(Clone, Copy)]
 struct Known {
     ran: Ran,
     left: u16,

@@ -8,7 +8,7 @@ use engine::run::Ran;
 use mcode::{Ending, Machine};
 
 // How a reading ended, what is left of the requests, what the store tells of a caught trap, and the outputs.
-#[derive(Drop)]
+#[derive(Clone, Copy)]
 pub struct Shown {
     pub ran: Ran,
     pub left: u16,

@@ -49,7 +49,7 @@ fn are_words(list: &[u8]) -> bool
 }
 
 // What is tried: a channel, or nothing where the text is bad.
-#[derive(Drop)]
+#[derive(Clone, Copy)]
 pub enum Tried {
     Channel(u8),
     Bad,

@@ -150,7 +150,7 @@ fn put_channel(
 }
 
 // What an argument is that stands behind another one.
-#[derive(Drop)]
+#[derive(Clone, Copy)]
 pub enum Behind {
     Any,
     Value,

@@ -6,7 +6,7 @@ use console::options;
 use console::print::{complaint, too_long};
 
 // How many steps are listed, and whether the value of --limit comes next.
-#[derive(Drop)]
+#[derive(Clone, Copy)]
 pub struct Wanted {
     pub asked: Asked,
     pub limit: u32,

@@ -95,7 +95,7 @@ fn put_last(ran: Ran, image: &[u8], store: &[u16], options: Options) {
 }
 
 // How a trace ended, and what is left of the requests.
-#[derive(Drop)]
+#[derive(Clone, Copy)]
 struct Traced {
     ran: Ran,
     left: u16,

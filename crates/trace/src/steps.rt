@@ -38,7 +38,7 @@ fn more(
 }
 
 // A run of `done` steps, made one at a time.
-#[derive(Drop)]
+#[derive(Clone, Copy)]
 struct Done {
     ran: Ran,
     done: u32,

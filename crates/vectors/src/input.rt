@@ -3,7 +3,7 @@
 
 // How far the buffer has been taken and filled, the number that was taken last, and whether the file was good so far: not cut off,
 // and no number above its limit.
-#[derive(Drop)]
+#[derive(Clone, Copy)]
 pub struct Input {
     pub at: usize,
     pub end: usize,

@@ -1,6 +1,6 @@
 // The first n elements of a buffer, and the two sums of words, bytes or entries: from 1 on, each word x makes the first one (31 h + x) modulo 65,521 and
 // the second one (257 h + x) modulo 65,519.
-#[derive(Drop)]
+#[derive(Clone, Copy)]
 pub struct Sums {
     pub first: u32,
     pub second: u32,

@@ -3,7 +3,7 @@ use crate::input::{Input, limited, low_byte, low_word, next_length, next_long, n
 use mcode::{Address, Machine, Position, Registers};
 
 // Up to 32 words with their number, and the place after them.
-#[derive(Drop)]
+#[derive(Clone, Copy)]
 pub struct List {
     pub input: Input,
     pub count: usize,
@@ -12,7 +12,7 @@ pub struct List {
 
 // What a case says before its runs: the lengths of the image, the map, the output and the store, the entry that fills the map, and the
 // outputs.
-#[derive(Drop)]
+#[derive(Clone, Copy)]
 pub struct Case {
     pub input: Input,
     pub image: usize,
@@ -25,7 +25,7 @@ pub struct Case {
 }
 
 // A run, with the requests, the inputs and the machine that it is handed.
-#[derive(Drop)]
+#[derive(Clone, Copy)]
 pub struct Run {
     pub input: Input,
     pub budget: u32,

@@ -12,7 +12,7 @@ use loader::start::Started;
 use mcode::{Delivered, Ending, Machine, Verdict};
 
 // How far the input was read and the text's buffer is full.
-#[derive(Drop)]
+#[derive(Clone, Copy)]
 pub struct Places {
     pub input: Input,
     pub out: usize,
@@ -181,7 +181,7 @@ fn run_part(
 }
 
 // The last run that was read, with the machine and the requests after it, and how full the text's buffer is.
-#[derive(Drop)]
+#[derive(Clone, Copy)]
 struct Progress {
     run: Run,
     out: usize,

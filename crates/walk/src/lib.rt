@@ -20,7 +20,7 @@ use marks::UNMARKED;
 use mcode::{Flow, MOST_MODULES, Module};
 
 // Whether every position that is reached is whole, or the lowest one at fault.
-#[derive(Drop)]
+#[derive(Clone, Copy)]
 pub enum Scan {
     Whole,
     Fault(u16),

@@ -1,0 +1,10 @@
+-- A refusal carries the empty program.
+use mathlib.Core.Path.{refl}
+use Prim.Native.Nat.{◌-◌}
+use Rattle.mcode.specs.Image.{refused_by}
+use borrow.Author.Rules.{rules}
+use Rattle.image.proofs.refused.Goals as goal
+
+pub returns : goal.returns
+unfolding refused_by
+returns c = rw c.no_module-none.ensures refl

@@ -1,0 +1,17 @@
+use native.Mathlib.Omega.{arith}
+use Rattle.mcode.specs.Depths.{depth_of, passed}
+use borrow.Author.Rules.{rules}
+use Rattle.marks.proofs.depth_of.Reads as depth-of-reads
+use Rattle.marks.proofs.passed_on.Goals as goal
+
+pub overflow_sub-result : goal.overflow_sub-result
+unfolding depth_of
+overflow_sub-result c = omega (arith, c.depth_of.ensures)
+
+pub overflow_add-result : goal.overflow_add-result
+unfolding depth_of
+overflow_add-result c = omega (arith, c.depth_of.ensures, c.requires)
+
+pub returns : goal.returns
+unfolding depth_of passed
+returns c = omega (arith, c.depth_of.ensures)

@@ -1,0 +1,7 @@
+use Rattle.std.proofs.Common.{ap, ◌∙◌, rules}
+use Rattle.mcode.specs.declared.Value.TheVariants.{Is}
+use Rattle.words.proofs.Families.{unsigned-word}
+use Rattle.words.proofs.sides.compared.Goals as goal
+
+pub returns : goal.returns
+returns c = ap Is c.answer_of.ensures ∙ unsigned-word _ _ _ c.requires.0 c.requires.1

@@ -1,0 +1,12 @@
+use Rattle.std.proofs.Common.{◌-ℤ◌, rules}
+use Rattle.words.proofs.Numbers.{in32, sub-mag}
+use Rattle.words.proofs.signed.sub.Goals as goal
+
+pub overflow_sub-wide_of : goal.overflow_sub-wide_of
+overflow_sub-wide_of c = (in32 ◌-ℤ◌ sub-mag c.wide_of.result c.wide_of-2.result c.wide_of.ensures.1 c.wide_of-2.ensures.1).0
+
+pub returns : goal.returns
+returns c =
+    let x = c.wide_of.ensures in
+    let y = c.wide_of-2.ensures in
+    rw (c.settled.ensures, (in32 ◌-ℤ◌ sub-mag c.wide_of.result c.wide_of-2.result x.1 y.1).1, x.0, y.0)

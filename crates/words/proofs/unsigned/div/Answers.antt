@@ -1,0 +1,8 @@
+use Rattle.std.proofs.Common.{rules, eq-eqb, ne_eqb}
+use Rattle.words.proofs.unsigned.div.Goals as goal
+
+pub returns-then-a-eq0 : goal.returns-then-a-eq0
+returns-then-a-eq0 c = rw (eq-eqb _ _ c.if-a-eq0.true)
+
+pub returns-else-a-eq0 : goal.returns-else-a-eq0
+returns-else-a-eq0 c = rw (ne_eqb _ _ c.if-a-eq0.false)

@@ -1,5 +1,6 @@
 // The actions of the instructions, one function each, over the registers as the stepping loop holds them.
 #![tactic(auto)]
+
 use mcode::{Address, MOST_MODULES};
 
 // The numbers of a program as a step is lent them: the count of modules, then six a module.

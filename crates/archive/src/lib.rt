@@ -1,6 +1,7 @@
 // The form in which the archive files an image: the modules that load accepts, each with only those fields that say something else
 // than what holds where they are missing.
 #![tactic(auto)]
+
 pub mod fields;
 pub mod form;
 pub mod put;

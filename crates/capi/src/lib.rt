@@ -1,6 +1,7 @@
 // The engine for C and for other languages: load, start, run and archive over plain slices. A slice passes as a pointer and a length in
 // elements (include/cembuxola.h). Nothing is asked of the lengths: a buffer of a wrong length is answered with a number.
 #![tactic(auto)]
+
 ghost use Rattle.std.specs.Prelude.{◌≡◌};
 ghost use Rattle.capi.specs.Answers.{LoadLeft, ArchiveLeft, start_left, start_words, run_left, run_words};
 

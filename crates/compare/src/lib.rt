@@ -1,5 +1,6 @@
 // Whether two images hold the same modules, and if not, what differs first.
 #![tactic(auto)]
+
 pub mod modules;
 pub mod values;
 

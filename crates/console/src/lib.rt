@@ -2,6 +2,7 @@
 // the printing of a reading. Each question about bytes is answered by a function on slices whose contract gives the whole answer; the
 // programs only read, ask and print.
 #![tactic(auto)]
+
 pub mod arguments;
 pub mod caught;
 pub mod code;

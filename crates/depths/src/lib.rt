@@ -1,6 +1,7 @@
 // The depth check of one module's code: a worklist search for the fewest marks that fit. mcode's specs/Depths.antt says what a
 // fitting assignment is. `fits` tests a map that anybody lends, `rules` has the rules, `records` and `kinds` what both are lent.
 #![tactic(auto)]
+
 pub mod fits;
 pub mod kinds;
 pub mod records;

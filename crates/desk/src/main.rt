@@ -3,6 +3,7 @@
 // passes the earlier checks prints refusal 7." Where standard input cannot be read, it prints nothing, and a line on standard error
 // says why.
 #![tactic(auto)]
+
 use console::files::Filled;
 use console::{files, print};
 use in_place::reading::reading;

@@ -1,5 +1,6 @@
 // The engine: run, what it refuses, and a session of load, start and two runs.
 #![tactic(auto)]
+
 pub mod judge;
 pub mod run;
 pub mod session;

@@ -1,5 +1,6 @@
 // One instruction: every row of opcodes in its place, a turn of the stepping loop, and the step of a whole machine.
 #![tactic(auto)]
+
 ghost use Rattle.std.specs.Prelude.{◌≡◌, ◌≤◌, length, get_or};
 ghost use Rattle.mcode.specs.Opcode.{lengths};
 ghost use Rattle.mcode.specs.Step.{Lent};

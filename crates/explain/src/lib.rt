@@ -1,6 +1,7 @@
 // Why load refuses the code of an image: with 13 what is wrong at the place that it names, with 8 a place where depths meet or a rule
 // fails. `misfit` looks for that place, `shown` says of each position what a listing of such code shows.
 #![tactic(auto)]
+
 pub mod misfit;
 pub mod shown;
 

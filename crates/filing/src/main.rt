@@ -3,6 +3,7 @@
 // filing same FILE FILE   tells whether two images have the same modules, and if not, what differs first
 // bin/archive and bin/same call it. What is wrong is said on standard error, a line for each, and then nothing is written.
 #![tactic(auto)]
+
 mod forms;
 mod help;
 mod same;

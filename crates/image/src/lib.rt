@@ -1,6 +1,7 @@
 // Reads an image: bytes to a table of modules, or the refusal of the first part that is missing (3) or out of range (5, 6).
 // Each function reads one part, in the order in which the paper lists them, and answers as its namesake of mcode's specs/Image.antt.
 #![tactic(auto)]
+
 ghost use Rattle.std.specs.Prelude.{◌≡◌, ◌≤◌, length, replicate};
 ghost use Rattle.mcode.specs.Image.{first_module, most_modules, byte_at, word_at, skip_at, bits_at, data_at, count_at, name_at, length_at, limited_at, record_at, records_at, first_limit, body_at, module_at, no_module, refused_by, modules_from, parse};
 

@@ -1,6 +1,7 @@
 // list: images with their modules, procedures and code, one line an instruction, with the depths that load marks; of code that load
 // refuses, what is reached and what is wrong there.
 #![tactic(auto)]
+
 mod code;
 mod help;
 mod show;

@@ -1,6 +1,7 @@
 // What a listing of an image shows: the instructions with their names and operands, the procedures, marks as text, and searches over words
 // and marks.
 #![tactic(auto)]
+
 pub mod block;
 pub mod bytes;
 pub mod causes;

@@ -1,4 +1,5 @@
 // Load and start: what an image is taken by, before any instruction runs.
 #![tactic(auto)]
+
 pub mod load;
 pub mod start;

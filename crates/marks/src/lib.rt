@@ -2,6 +2,7 @@
 // list length 8 to 10, then five bits for each saved depth from the front, unused bits 0; all ones is unmarked." mcode's specs/Depths.antt has
 // the same as numbers, and proofs/Marks.antt there that packing and the fields are inverse.
 #![tactic(auto)]
+
 ghost use Rattle.std.specs.Prelude.{◌≡◌, true, ◌*◌, ◌^◌, ◌/◌, ◌%◌, ◌≤◌, ◌<◌};
 ghost use Rattle.mcode.specs.Depths.{mark_of, depth_of, promised, saves, list_of, front_of, is_list, is_mark, passed, stored, fetched, permits};
 

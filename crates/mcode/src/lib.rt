@@ -1,5 +1,6 @@
 // Base M-code: the declared types, and the opcode table. What they mean is defined in specs/.
 #![tactic(auto)]
+
 ghost use Rattle.std.specs.Prelude.{◌≡◌, ◌+◌, ◌-◌, ◌≤◌};
 ghost use Rattle.mcode.specs.Image.{base_copy, margin};
 ghost use Rattle.mcode.specs.Machine.{stop_number, stop_code};

@@ -3,6 +3,7 @@
 // reading [--steps N] [--store W] [--input CH=VALUE].. [--vary CH=V1,V2,..].. [--requests WORD] [--line I].. [--after N] FILE..
 // An option's value may also stand in its own argument, as --steps=N. What is wrong is said on standard error, a line for each.
 #![tactic(auto)]
+
 mod arguments;
 mod help;
 mod read;

@@ -1,5 +1,6 @@
 // The first eight rows of sixteen opcodes: constants, jumps, and the loads and stores of words.
 #![tactic(auto)]
+
 ghost use Rattle.std.specs.Prelude.{◌≡◌, true, List, ℕ, ◌≤◌, ◌<◌, ◌/◌, length};
 ghost use Rattle.mcode.specs.Image.{most_modules, bases_of};
 ghost use Rattle.mcode.specs.Depths.{names_module};

@@ -2,6 +2,7 @@
 // trace [--steps N] [--store W] [--input CH=VALUE].. [--requests WORD] [--line I].. [--after N] [--limit L] FILE..
 // An option's value may also stand in its own argument, as --steps=N.
 #![tactic(auto)]
+
 mod arguments;
 mod help;
 mod process;

@@ -1,6 +1,7 @@
 // Replays the cases of the second interpreter through archive, load, start and run, and prints what they answer. It reads the file of cases
 // from standard input and writes the text of `second expect`; both are described in second/README.md.
 #![tactic(auto)]
+
 mod input;
 mod output;
 mod parts;

@@ -1,6 +1,7 @@
 // Follows a module's code from its entries without regard to depth, and says which of the positions so reached are at fault. mcode's
 // specs/Walk.antt has the rules. A reached position has the mark 0.
 #![tactic(auto)]
+
 pub mod causes;
 pub mod ways;
 

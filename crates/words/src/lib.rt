@@ -1,5 +1,6 @@
 // Arithmetic on words of 16 bits, as mcode's specs/Word defines it.
 #![tactic(auto)]
+
 ghost use Rattle.std.specs.Prelude.{◌≡◌, ℕ};
 ghost use Rattle.mcode.specs.Word as W;
 

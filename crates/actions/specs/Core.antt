@@ -30,8 +30,8 @@ left_by x (go y) = record { stop = 0; code = 0; state = y }
 left_by x (halt k) = record { stop = stop_number k; code = stop_code k; state = x }
 
 -- what a function answered, with what it left behind its references
-abbrev pub result : Stepped → List ℕ → List ℕ → List ℕ → Left
-result q stack store out = record { stop = q.stop; code = q.code; state = held q.core stack store out }
+abbrev pub result_of : Stepped → List ℕ → List ℕ → List ℕ → Left
+result_of q stack store out = record { stop = q.stop; code = q.code; state = held q.core stack store out }
 
 abbrev pub stepped : ℕ → ℕ → Core → Stepped
 stepped n k r = record { stop = n; code = k; core = r }

@@ -2,7 +2,7 @@
 ghost use Rattle.std.specs.Prelude.{◌≡◌, ℕ, ◌<◌, ◌≤◌, List};
 ghost use Rattle.mcode.specs.Step.{Lent};
 ghost use Rattle.mcode.specs.Decode as Act;
-ghost use Rattle.actions.specs.Core.{result, acted, Stays};
+ghost use Rattle.actions.specs.Core.{result_of, acted, Stays};
 
 use crate::compute::replace_two;
 use crate::leaf::{second_of, take_three, third_of, top_of, trapped};
@@ -12,7 +12,7 @@ use words::bits::{byte_of, with_byte};
 // Byte a of the string at c: 205.
 pub fn load_byte(r: Core, stack: &mut [u16; 16], store: &[u16], to: usize) -> Stepped
     requires { (1 < r.depth) × (r.depth ≤ 16) × (r.start ≤ to) }
-    ensures* { λ q. ⌜ ((lent : Lent) (out : List ℕ) → result q stack.new store.now out ≡ acted lent Act.LoadByte to r stack.old store.now out) × Stays r q.core ⌝ }
+    ensures { ((lent : Lent) (out : List ℕ) → result_of result stack.new store.now out ≡ acted lent Act.LoadByte to r stack.old store.now out) × Stays r result.core }
 {
     let i = top_of(r, stack);
     let n = std::num::wrapping_add_u16(second_of(r, stack), i / 2) as usize;
@@ -26,7 +26,7 @@ pub fn load_byte(r: Core, stack: &mut [u16; 16], store: &[u16], to: usize) -> St
 // Byte c of the string at e set to a modulo 256: 225.
 pub fn save_byte(r: Core, stack: &mut [u16; 16], store: &mut [u16], to: usize) -> Stepped
     requires { (2 < r.depth) × (r.depth ≤ 16) × (r.start ≤ to) }
-    ensures* { λ q. ⌜ ((lent : Lent) (out : List ℕ) → result q stack.new store.new out ≡ acted lent Act.StoreByte to r stack.old store.old out) × Stays r q.core ⌝ }
+    ensures { ((lent : Lent) (out : List ℕ) → result_of result stack.new store.new out ≡ acted lent Act.StoreByte to r stack.old store.old out) × Stays r result.core }
 {
     let i = second_of(r, stack);
     let n = std::num::wrapping_add_u16(third_of(r, stack), i / 2) as usize;

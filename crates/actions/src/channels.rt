@@ -2,7 +2,7 @@
 ghost use Rattle.std.specs.Prelude.{◌≡◌, ℕ, ◌<◌, ◌≤◌, List, length};
 ghost use Rattle.mcode.specs.Step.{Lent};
 ghost use Rattle.mcode.specs.Decode as Act;
-ghost use Rattle.actions.specs.Core.{result, acted, read_at, unites, Stays};
+ghost use Rattle.actions.specs.Core.{result_of, acted, read_at, unites, Stays};
 
 use crate::leaf::{second_of, take_two, top_of, trapped};
 use crate::{Core, Stepped};
@@ -17,7 +17,7 @@ pub fn read(
     to: usize,
 ) -> Stepped
     requires { (1 < r.depth) × (r.depth ≤ 16) × (length inputs.now ≡ 16) × (r.start ≤ to) }
-    ensures* { λ q. ⌜ (taken.new ≡ unites q.stop taken.old (read_at 0o240 r stack.old)) × ((lent : Lent) → lent.inputs ≡ inputs.now → (out : List ℕ) → result q stack.new store.new out ≡ acted lent Act.Read to r stack.old store.old out) × Stays r q.core ⌝ }
+    ensures { (taken.new ≡ unites result.stop taken.old (read_at 0o240 r stack.old)) × ((lent : Lent) → lent.inputs ≡ inputs.now → (out : List ℕ) → result_of result stack.new store.new out ≡ acted lent Act.Read to r stack.old store.old out) × Stays r result.core }
 {
     let a = top_of(r, stack) as usize;
     let i = second_of(r, stack) as usize;
@@ -36,7 +36,7 @@ pub fn read(
 // Output c becomes a: 241.
 pub fn write(r: Core, stack: &mut [u16; 16], outputs: &mut [u16], to: usize) -> Stepped
     requires { (1 < r.depth) × (r.depth ≤ 16) × (length outputs.old ≡ 16) × (r.start ≤ to) }
-    ensures* { λ q. ⌜ ((lent : Lent) (store : List ℕ) → result q stack.new store outputs.new ≡ acted lent Act.Write to r stack.old store outputs.old) × Stays r q.core ⌝ }
+    ensures { ((lent : Lent) (store : List ℕ) → result_of result stack.new store outputs.new ≡ acted lent Act.Write to r stack.old store outputs.old) × Stays r result.core }
 {
     let c = second_of(r, stack) as usize;
     if 15 < c {

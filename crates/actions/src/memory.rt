@@ -2,7 +2,7 @@
 ghost use Rattle.std.specs.Prelude.{◌≡◌, ℕ, ◌<◌, ◌≤◌, List};
 ghost use Rattle.mcode.specs.Step.{Lent};
 ghost use Rattle.mcode.specs.Decode as Act;
-ghost use Rattle.actions.specs.Core.{result, acted, Stays};
+ghost use Rattle.actions.specs.Core.{result_of, acted, Stays};
 
 use crate::compute::{put_word, replace_two};
 use crate::leaf::{
@@ -13,7 +13,7 @@ use mcode::Address;
 
 pub fn load(r: Core, stack: &mut [u16; 16], store: &[u16], a: Address, to: usize) -> Stepped
     requires { (r.depth < 16) × (r.start ≤ to) }
-    ensures* { λ q. ⌜ ((lent : Lent) (out : List ℕ) → result q stack.new store.now out ≡ acted lent (Act.Load a) to r stack.old store.now out) × Stays r q.core ⌝ }
+    ensures { ((lent : Lent) (out : List ℕ) → result_of result stack.new store.now out ≡ acted lent (Act.Load a) to r stack.old store.now out) × Stays r result.core }
 {
     let i = a.0 as usize;
     if i < store.len() {
@@ -25,7 +25,7 @@ pub fn load(r: Core, stack: &mut [u16; 16], store: &[u16], a: Address, to: usize
 
 pub fn save(r: Core, stack: &mut [u16; 16], store: &mut [u16], a: Address, to: usize) -> Stepped
     requires { (0 < r.depth) × (r.depth ≤ 16) × (r.start ≤ to) }
-    ensures* { λ q. ⌜ ((lent : Lent) (out : List ℕ) → result q stack.new store.new out ≡ acted lent (Act.Store a) to r stack.old store.old out) × Stays r q.core ⌝ }
+    ensures { ((lent : Lent) (out : List ℕ) → result_of result stack.new store.new out ≡ acted lent (Act.Store a) to r stack.old store.old out) × Stays r result.core }
 {
     let i = a.0 as usize;
     if i < store.len() {
@@ -39,7 +39,7 @@ pub fn save(r: Core, stack: &mut [u16; 16], store: &mut [u16], a: Address, to: u
 // The word at a + k: 140-157, 200.
 pub fn load_top(r: Core, stack: &mut [u16; 16], store: &[u16], k: u16, to: usize) -> Stepped
     requires { (0 < r.depth) × (r.depth ≤ 16) × (r.start ≤ to) }
-    ensures* { λ q. ⌜ ((lent : Lent) (out : List ℕ) → result q stack.new store.now out ≡ acted lent (Act.LoadTop k) to r stack.old store.now out) × Stays r q.core ⌝ }
+    ensures { ((lent : Lent) (out : List ℕ) → result_of result stack.new store.now out ≡ acted lent (Act.LoadTop k) to r stack.old store.now out) × Stays r result.core }
 {
     let i = std::num::wrapping_add_u16(top_of(r, stack), k) as usize;
     if i < store.len() {
@@ -52,7 +52,7 @@ pub fn load_top(r: Core, stack: &mut [u16; 16], store: &[u16], k: u16, to: usize
 // The word at c + a: 206.
 pub fn load_indexed(r: Core, stack: &mut [u16; 16], store: &[u16], to: usize) -> Stepped
     requires { (1 < r.depth) × (r.depth ≤ 16) × (r.start ≤ to) }
-    ensures* { λ q. ⌜ ((lent : Lent) (out : List ℕ) → result q stack.new store.now out ≡ acted lent Act.LoadIndexed to r stack.old store.now out) × Stays r q.core ⌝ }
+    ensures { ((lent : Lent) (out : List ℕ) → result_of result stack.new store.now out ≡ acted lent Act.LoadIndexed to r stack.old store.now out) × Stays r result.core }
 {
     let i = std::num::wrapping_add_u16(second_of(r, stack), top_of(r, stack)) as usize;
     if i < store.len() {
@@ -65,7 +65,7 @@ pub fn load_indexed(r: Core, stack: &mut [u16; 16], store: &[u16], to: usize) ->
 // a at c + k: 160-177, 220.
 pub fn save_below(r: Core, stack: &mut [u16; 16], store: &mut [u16], k: u16, to: usize) -> Stepped
     requires { (1 < r.depth) × (r.depth ≤ 16) × (r.start ≤ to) }
-    ensures* { λ q. ⌜ ((lent : Lent) (out : List ℕ) → result q stack.new store.new out ≡ acted lent (Act.StoreBelow k) to r stack.old store.old out) × Stays r q.core ⌝ }
+    ensures { ((lent : Lent) (out : List ℕ) → result_of result stack.new store.new out ≡ acted lent (Act.StoreBelow k) to r stack.old store.old out) × Stays r result.core }
 {
     let i = std::num::wrapping_add_u16(second_of(r, stack), k) as usize;
     if i < store.len() {
@@ -79,7 +79,7 @@ pub fn save_below(r: Core, stack: &mut [u16; 16], store: &mut [u16], k: u16, to:
 // a at e + c: 226.
 pub fn save_indexed(r: Core, stack: &mut [u16; 16], store: &mut [u16], to: usize) -> Stepped
     requires { (2 < r.depth) × (r.depth ≤ 16) × (r.start ≤ to) }
-    ensures* { λ q. ⌜ ((lent : Lent) (out : List ℕ) → result q stack.new store.new out ≡ acted lent Act.StoreIndexed to r stack.old store.old out) × Stays r q.core ⌝ }
+    ensures { ((lent : Lent) (out : List ℕ) → result_of result stack.new store.new out ≡ acted lent Act.StoreIndexed to r stack.old store.old out) × Stays r result.core }
 {
     let i = std::num::wrapping_add_u16(third_of(r, stack), second_of(r, stack)) as usize;
     if i < store.len() {

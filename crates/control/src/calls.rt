@@ -4,7 +4,7 @@ ghost use Rattle.std.specs.Prelude.{◌≡◌, List, ℕ, ◌+◌, ◌-◌, ◌�
 ghost use Rattle.mcode.specs.Image.{proc_count};
 ghost use Rattle.mcode.specs.Decode as Act;
 ghost use Rattle.mcode.specs.Step.{Lent};
-ghost use Rattle.actions.specs.Core.{result, acted, Stays};
+ghost use Rattle.actions.specs.Core.{result_of, acted, Stays};
 ghost use Rattle.actions.specs.Table.{module_in, Anchored, Lends};
 ghost use Rattle.control.specs.Table.{count_in, Entered};
 ghost use Rattle.control.specs.Frames.{Framed, frame};
@@ -16,7 +16,7 @@ use actions::{Core, Stepped, TABLE_WORDS};
 
 fn write_frame(store: &mut [u16], s: usize, link: u16, l: u16, mark: u16)
     requires { s + 3 ≤ length store.old }
-    ensures* { λ q. ⌜ store.new ≡ frame store.old s link l mark ⌝ }
+    ensures { store.new ≡ frame store.old s link l mark }
 {
     store[s] = link;
     store[s + 1] = l;
@@ -26,7 +26,7 @@ fn write_frame(store: &mut [u16], s: usize, link: u16, l: u16, mark: u16)
 // The frame of 355: the link is G, and the next position has 8000 hex more.
 fn write_external(r: Core, store: &mut [u16], to: usize)
     requires { (r.s.0 + 3 ≤ length store.old) × (r.start ≤ to) × (to - r.start < 32768) }
-    ensures* { λ q. ⌜ store.new ≡ frame store.old r.s.0 r.g.0 r.l.0 (to - r.start + 32768) ⌝ }
+    ensures { store.new ≡ frame store.old r.s.0 r.g.0 r.l.0 (to - r.start + 32768) }
 {
     let s = r.s.0 as usize;
     write_frame(store, s, r.g.0, r.l.0, (to - r.start) as u16 + 32768);
@@ -44,7 +44,7 @@ pub fn call(
     requires entered { Entered image.now table.now }
     requires framed { Framed table.now (length store.old) r }
     requires n_bound { (n < proc_count (module_in table.now r.unit)) × (r.start < 65536) × (r.start ≤ to) × (to - r.start < 65536) }
-    ensures* { λ q. ⌜ ((lent : Lent) (marks words : List ℕ) → Lends image.now table.now marks words lent → (stack out : List ℕ) → result q stack store.new out ≡ acted lent (Act.Call n) to r stack store.old out) × Stays r q.core ⌝ }
+    ensures { ((lent : Lent) (marks words : List ℕ) → Lends image.now table.now marks words lent → (stack out : List ℕ) → result_of result stack store.new out ≡ acted lent (Act.Call n) to r stack store.old out) × Stays r result.core }
 {
     let s = r.s.0 as usize;
     let h = r.h.0 as usize;
@@ -73,7 +73,7 @@ pub fn call_linked(
     requires entered { Entered image.now table.now }
     requires framed { Framed table.now (length store.old) r }
     requires n_bound { (n < proc_count (module_in table.now r.unit)) × (r.start < 65536) × (r.start ≤ to) × (to - r.start < 65536) × (0 < r.depth) }
-    ensures* { λ q. ⌜ ((lent : Lent) (marks words : List ℕ) → Lends image.now table.now marks words lent → (out : List ℕ) → result q stack.new store.new out ≡ acted lent (Act.CallLinked n) to r stack.old store.old out) × Stays r q.core ⌝ }
+    ensures { ((lent : Lent) (marks words : List ℕ) → Lends image.now table.now marks words lent → (out : List ℕ) → result_of result stack.new store.new out ≡ acted lent (Act.CallLinked n) to r stack.old store.old out) × Stays r result.core }
 {
     let s = r.s.0 as usize;
     let h = r.h.0 as usize;
@@ -104,7 +104,7 @@ pub fn call_external(
     requires framed { Framed table.now (length store.old) r }
     requires anchored { Anchored table.now r }
     requires k_bound { (k < count_in table.now) × (n < proc_count (module_in table.now k)) × (r.start ≤ to) × (to - r.start < 32768) }
-    ensures* { λ q. ⌜ ((lent : Lent) (marks words : List ℕ) → Lends image.now table.now marks words lent → (stack out : List ℕ) → result q stack store.new out ≡ acted lent (Act.CallExternal k n) to r stack store.old out) × Anchored table.now q.core ⌝ }
+    ensures { ((lent : Lent) (marks words : List ℕ) → Lends image.now table.now marks words lent → (stack out : List ℕ) → result_of result stack store.new out ≡ acted lent (Act.CallExternal k n) to r stack store.old out) × Anchored table.now result.core }
 {
     let s = r.s.0 as usize;
     let h = r.h.0 as usize;

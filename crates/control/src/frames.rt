@@ -3,7 +3,7 @@ ghost use Rattle.std.specs.Prelude.{◌≡◌, List, ℕ, ◌+◌, ◌≤◌, �
 ghost use Rattle.mcode.specs.Image.{most_modules};
 ghost use Rattle.mcode.specs.Decode as Act;
 ghost use Rattle.mcode.specs.Step.{Lent, back_to, unit_based};
-ghost use Rattle.actions.specs.Core.{held, result, left_by, acted, Stays, stepped};
+ghost use Rattle.actions.specs.Core.{held, result_of, left_by, acted, Stays, stepped};
 ghost use Rattle.actions.specs.Table.{Anchored, Lends};
 ghost use Rattle.control.specs.Table.{Mapped};
 ghost use Rattle.control.specs.Frames.{Framed, placed, in_frame, in_module};
@@ -25,7 +25,7 @@ fn settled(
     frame: u16,
     top: u16,
 ) -> Stepped
-    ensures* { λ q. ⌜ q ≡ stepped 0 0 (placed start unit g to depth frame top r) ⌝ }
+    ensures { result ≡ stepped 0 0 (placed start unit g to depth frame top r) }
 {
     let pc = to;
     let l = Address(frame);
@@ -54,7 +54,7 @@ fn settled(
 
 // In the module of the registers.
 pub fn framed(r: Core, depth: usize, to: usize, frame: u16, top: u16) -> Stepped
-    ensures* { λ q. ⌜ q ≡ stepped 0 0 (in_frame to depth frame top r) ⌝ }
+    ensures { result ≡ stepped 0 0 (in_frame to depth frame top r) }
 {
     settled(r, depth, to, r.start, r.unit, r.g, frame, top)
 }
@@ -69,7 +69,7 @@ pub fn in_module(
     top: u16,
 ) -> Stepped
     requires { k < most_modules }
-    ensures* { λ q. ⌜ q ≡ stepped 0 0 (in_module table.now k at frame top r) ⌝ }
+    ensures { result ≡ stepped 0 0 (in_module table.now k at frame top r) }
 {
     let start = number(table, k, 1) as usize;
     let base = number(table, k, 4);
@@ -88,7 +88,7 @@ pub fn in_module(
 // 353 b: "S+b above H is 33, else S += b."
 pub fn enter(r: Core, b: u16, to: usize) -> Stepped
     requires { r.start ≤ to }
-    ensures* { λ q. ⌜ ((lent : Lent) (stack store out : List ℕ) → result q stack store out ≡ acted lent (Act.Enter b) to r stack store out) × Stays r q.core ⌝ }
+    ensures { ((lent : Lent) (stack store out : List ℕ) → result_of result stack store out ≡ acted lent (Act.Enter b) to r stack store out) × Stays r result.core }
 {
     let s = r.s.0 as usize + b as usize;
     let h = r.h.0 as usize;
@@ -102,7 +102,7 @@ pub fn enter(r: Core, b: u16, to: usize) -> Stepped
 // 350 n, and 351 with 1: "from L, n times the word at that address; puts it."
 pub fn follow(r: Core, stack: &mut [u16; 16], store: &[u16], n: u16, to: usize) -> Stepped
     requires { (r.depth < 16) × (r.start ≤ to) }
-    ensures* { λ q. ⌜ ((lent : Lent) (out : List ℕ) → result q stack.new store.now out ≡ acted lent (Act.Follow n) to r stack.old store.now out) × Stays r q.core ⌝ }
+    ensures { ((lent : Lent) (out : List ℕ) → result_of result stack.new store.now out ≡ acted lent (Act.Follow n) to r stack.old store.now out) × Stays r result.core }
 {
     let mut a = r.l.0;
     let mut left = n;
@@ -122,7 +122,7 @@ fn back_here(r: Core, table: &[u16; TABLE_WORDS], map: &[u32], store: &[u16], at
     requires mapped { Mapped table.now map.now }
     requires anchored { Anchored table.now r }
     requires depth_bound { (r.depth ≤ 16) × (r.l.0 + 1 < length store.now) × (r.start < 65536) }
-    ensures* { λ q. ⌜ ((lent : Lent) (bytes words : List ℕ) → Lends bytes table.now map.now words lent → (stack out : List ℕ) → result q stack store.now out ≡ left_by (held r stack store.now out) (back_to lent r.unit at (held r stack store.now out))) × Stays r q.core ⌝ }
+    ensures { ((lent : Lent) (bytes words : List ℕ) → Lends bytes table.now map.now words lent → (stack out : List ℕ) → result_of result stack store.now out ≡ left_by (held r stack store.now out) (back_to lent r.unit at (held r stack store.now out))) × Stays r result.core }
 {
     let k = r.unit as usize;
     let d = r.depth;
@@ -139,7 +139,7 @@ fn back_there(r: Core, table: &[u16; TABLE_WORDS], map: &[u32], store: &[u16], a
     requires mapped { Mapped table.now map.now }
     requires anchored { Anchored table.now r }
     requires depth_bound { (r.depth ≤ 16) × (r.l.0 + 1 < length store.now) }
-    ensures* { λ q. ⌜ ((lent : Lent) (bytes words : List ℕ) → Lends bytes table.now map.now words lent → (stack out : List ℕ) → result q stack store.now out ≡ left_by (held r stack store.now out) (back_to lent (unit_based lent.program (get_or store.now r.l.0 0)) at (held r stack store.now out))) × Anchored table.now q.core ⌝ }
+    ensures { ((lent : Lent) (bytes words : List ℕ) → Lends bytes table.now map.now words lent → (stack out : List ℕ) → result_of result stack store.now out ≡ left_by (held r stack store.now out) (back_to lent (unit_based lent.program (get_or store.now r.l.0 0)) at (held r stack store.now out))) × Anchored table.now result.core }
 {
     let l = r.l.0;
     let i = l as usize;
@@ -158,7 +158,7 @@ pub fn return_from(r: Core, table: &[u16; TABLE_WORDS], map: &[u32], store: &[u1
     requires framed { Framed table.now (length store.now) r }
     requires anchored { Anchored table.now r }
     requires start_bound { r.start < 65536 }
-    ensures* { λ q. ⌜ ((lent : Lent) (bytes words : List ℕ) → Lends bytes table.now map.now words lent → (to : ℕ) (stack out : List ℕ) → result q stack store.now out ≡ acted lent Act.Return to r stack store.now out) × Anchored table.now q.core ⌝ }
+    ensures { ((lent : Lent) (bytes words : List ℕ) → Lends bytes table.now map.now words lent → (to : ℕ) (stack out : List ℕ) → result_of result stack store.now out ≡ acted lent Act.Return to r stack store.now out) × Anchored table.now result.core }
 {
     if r.h.0 < r.l.0 {
         return trapped(r, 34);

@@ -3,7 +3,7 @@ ghost use Rattle.std.specs.Prelude.{◌≡◌, List, ℕ, ◌+◌, ◌-◌, ◌�
 ghost use Rattle.mcode.specs.Word.{pick};
 ghost use Rattle.mcode.specs.Opcode.{lengths};
 ghost use Rattle.mcode.specs.Step.{Lent};
-ghost use Rattle.actions.specs.Core.{result, instruction, performed, spent_op, operand_at};
+ghost use Rattle.actions.specs.Core.{result_of, instruction, performed, spent_op, operand_at};
 ghost use Rattle.actions.specs.Table.{Anchored, Lends};
 ghost use Rattle.control.specs.Table.{Mapped};
 ghost use Rattle.control.specs.Rows.{Controls};
@@ -28,7 +28,7 @@ pub fn row14(
     requires op_value { op / 16 ≡ 14 }
     requires controls { (op ≡ spent_op → ⊥) → Controls image.now table.now (length store.old) op r × Mapped table.now map.now × (1 ≤ get_or lengths op 0) }
     requires anchored { Anchored table.now r }
-    ensures* { λ q. ⌜ ((lent : Lent) (words : List ℕ) → Lends image.now table.now map.now words lent → (out : List ℕ) → result q stack.new store.new out ≡ performed lent op (operand_at image.now r) r stack.old store.old out) × Anchored table.now q.core ⌝ }
+    ensures { ((lent : Lent) (words : List ℕ) → Lends image.now table.now map.now words lent → (out : List ℕ) → result_of result stack.new store.new out ≡ performed lent op (operand_at image.now r) r stack.old store.old out) × Anchored table.now result.core }
 {
     if op == 0o354 {
         return return_from(r, table, map, store);
@@ -66,7 +66,7 @@ pub fn row14(
 // The procedure that 360 n or one of 361 to 377 names.
 fn callee(op: u8, r: Core, image: &[u8]) -> u16
     requires { (0o360 ≤ op) × (op ≡ 0o360 → r.pc + 1 < length image.now) }
-    ensures* { λ q. ⌜ q ≡ pick (eqb op 0o360) (operand_at image.now r 1) (op - 0o360) ⌝ }
+    ensures { result ≡ pick (eqb op 0o360) (operand_at image.now r 1) (op - 0o360) }
 {
     if op == 0o360 {
         return operand(r, image, 1);
@@ -77,7 +77,7 @@ fn callee(op: u8, r: Core, image: &[u8]) -> u16
 // The place after it.
 fn after_call(op: u8, r: Core) -> usize
     requires { r.pc ≤ 65535 }
-    ensures* { λ q. ⌜ (q ≡ r.pc + pick (eqb op 0o360) 2 1) × (r.pc ≤ q) × (q ≤ r.pc + 2) ⌝ }
+    ensures { (result ≡ r.pc + pick (eqb op 0o360) 2 1) × (r.pc ≤ result) × (result ≤ r.pc + 2) }
 {
     if op == 0o360 {
         return r.pc + 2;
@@ -96,7 +96,7 @@ pub fn row15(
     requires op_value { op / 16 ≡ 15 }
     requires controls { Controls image.now table.now (length store.old) op r }
     requires anchored { Anchored table.now r }
-    ensures* { λ q. ⌜ ((lent : Lent) (marks words : List ℕ) → Lends image.now table.now marks words lent → (stack out : List ℕ) → result q stack store.new out ≡ instruction lent op (operand_at image.now r) r stack store.old out) × Anchored table.now q.core ⌝ }
+    ensures { ((lent : Lent) (marks words : List ℕ) → Lends image.now table.now marks words lent → (stack out : List ℕ) → result_of result stack store.new out ≡ instruction lent op (operand_at image.now r) r stack store.old out) × Anchored table.now result.core }
 {
     let n = callee(op, r, image);
     call(r, image, table, store, n, after_call(op, r))

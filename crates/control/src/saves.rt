@@ -4,7 +4,7 @@ ghost use Rattle.std.specs.Prelude.{◌≡◌, List, ℕ, ◌+◌, ◌-◌, ◌�
 ghost use Rattle.mcode.specs.Depths.{front_of, entry};
 ghost use Rattle.mcode.specs.Decode as Act;
 ghost use Rattle.mcode.specs.Step.{Lent, saved, restored, stacked};
-ghost use Rattle.actions.specs.Core.{result, acted, Stays};
+ghost use Rattle.actions.specs.Core.{result_of, acted, Stays};
 ghost use Rattle.actions.specs.Table.{Anchored, Lends};
 ghost use Rattle.control.specs.Frames.{Roomy};
 
@@ -17,7 +17,7 @@ use marks::front_of;
 // machine code is slower.
 fn restore(stack: &mut [u16; 16], store: &[u16], a: usize, k: usize)
     requires { (k ≤ 16) × (a + k ≤ length store.now) }
-    ensures* { λ q. ⌜ stack.new ≡ restored store.now k a stack.old ⌝ }
+    ensures { stack.new ≡ restored store.now k a stack.old }
 {
     let mut i = a + k;
     let mut n = 0usize;
@@ -31,7 +31,7 @@ fn restore(stack: &mut [u16; 16], store: &[u16], a: usize, k: usize)
 // They alone as a stack.
 pub fn words_at(store: &[u16], a: usize, k: usize) -> [u16; 16]
     requires { (k ≤ 16) × (a + k ≤ length store.now) }
-    ensures* { λ q. ⌜ q ≡ restored store.now k a (replicate 16 0) ⌝ }
+    ensures { result ≡ restored store.now k a (replicate 16 0) }
 {
     let mut words = [0u16; 16];
     restore(&mut words, store, a, k);
@@ -41,7 +41,7 @@ pub fn words_at(store: &[u16], a: usize, k: usize) -> [u16; 16]
 // The d words of the stack, top first, from the word at s up.
 fn save_words(stack: &[u16; 16], store: &mut [u16], d: usize, s: usize)
     requires { (d ≤ 16) × (s + d ≤ length store.old) }
-    ensures* { λ q. ⌜ store.new ≡ saved stack.now d s store.old ⌝ }
+    ensures { store.new ≡ saved stack.now d s store.old }
 {
     let mut i = s;
     let mut n = d;
@@ -55,7 +55,7 @@ fn save_words(stack: &[u16; 16], store: &mut [u16], d: usize, s: usize)
 // The same, and their count.
 pub fn save_stack(stack: &[u16; 16], store: &mut [u16], d: usize, s: usize)
     requires { (d ≤ 16) × (s + d < length store.old) }
-    ensures* { λ q. ⌜ store.new ≡ stacked stack.now d s store.old ⌝ }
+    ensures { store.new ≡ stacked stack.now d s store.old }
 {
     save_words(stack, store, d, s);
     store[s + d] = d as u16;
@@ -65,7 +65,7 @@ pub fn save_stack(stack: &[u16; 16], store: &mut [u16], d: usize, s: usize)
 pub fn save(r: Core, stack: &mut [u16; 16], store: &mut [u16], to: usize) -> Stepped
     requires roomy { Roomy (length store.old) r }
     requires depth_bound { (r.depth ≤ 16) × (r.start ≤ to) }
-    ensures* { λ q. ⌜ ((lent : Lent) (out : List ℕ) → result q stack.new store.new out ≡ acted lent Act.Save to r stack.old store.old out) × Stays r q.core ⌝ }
+    ensures { ((lent : Lent) (out : List ℕ) → result_of result stack.new store.new out ≡ acted lent Act.Save to r stack.old store.old out) × Stays r result.core }
 {
     let s = r.s.0 as usize;
     let d = r.depth;
@@ -84,7 +84,7 @@ pub fn save(r: Core, stack: &mut [u16; 16], store: &mut [u16], to: usize) -> Ste
 pub fn fetch(r: Core, map: &[u32], stack: &mut [u16; 16], store: &[u16], to: usize) -> Stepped
     requires roomy { Roomy (length store.now) r }
     requires le_depth { (1 ≤ r.depth) × (r.depth ≤ 16) × (r.start ≤ to) × (r.pc < length map.now) × (front_of (entry map.now r.pc) ≤ 15) }
-    ensures* { λ q. ⌜ ((lent : Lent) (bytes numbers words : List ℕ) → Lends bytes numbers map.now words lent → Anchored numbers r → (out : List ℕ) → result q stack.new store.now out ≡ acted lent Act.Fetch to r stack.old store.now out) × Stays r q.core ⌝ }
+    ensures { ((lent : Lent) (bytes numbers words : List ℕ) → Lends bytes numbers map.now words lent → Anchored numbers r → (out : List ℕ) → result_of result stack.new store.now out ≡ acted lent Act.Fetch to r stack.old store.now out) × Stays r result.core }
 {
     let at = r.pc;
     let n = front_of(map[at]) as usize;

@@ -6,7 +6,7 @@ ghost use Rattle.mcode.specs.Machine.{position, stop_number, stop_code};
 ghost use Rattle.mcode.specs.Decode as Act;
 ghost use Rattle.mcode.specs.Step.{Lent, process_at, restored, written, saved_store, taken_line, trapped as trap_of};
 ghost use Rattle.mcode.specs.declared.Stop.{Stop};
-ghost use Rattle.actions.specs.Core.{held, result, left_by, acted, stepped};
+ghost use Rattle.actions.specs.Core.{held, result_of, left_by, acted, stepped};
 ghost use Rattle.actions.specs.Table.{Anchored, Lends};
 ghost use Rattle.control.specs.Table.{Mapped};
 ghost use Rattle.control.specs.Frames.{Framed, Roomy};
@@ -20,7 +20,7 @@ use mcode::{Address, MOST_MODULES, Machine};
 
 fn word_at(store: &[u16], i: usize) -> u16
     requires { i < length store.now }
-    ensures* { λ q. ⌜ q ≡ get_or store.now i 0 ⌝ }
+    ensures { result ≡ get_or store.now i 0 }
 {
     store[i]
 }
@@ -28,7 +28,7 @@ fn word_at(store: &[u16], i: usize) -> u16
 // "q+8 <= W; 24 <= v <= W; 1 <= s <= W; k = word s-1, k <= 16, k < s; s-1-k <= v-24"
 fn is_sized(store: &[u16], q: usize) -> bool
     requires { q < 65536 }
-    ensures* { λ t. ⌜ t ≡ sized (length store.now) q (process_at store.now q) ⌝ }
+    ensures { result ≡ sized (length store.now) q (process_at store.now q) }
 {
     let w = store.len();
     if w < q + 8 {
@@ -59,7 +59,7 @@ fn is_sized(store: &[u16], q: usize) -> bool
 }
 
 fn mask_of(r: Core, b: u16, m: u16) -> u16
-    ensures* { λ q. ⌜ q ≡ pick (eqb b 0) r.mask m ⌝ }
+    ensures { result ≡ pick (eqb b 0) r.mask m }
 {
     if b == 0 { r.mask } else { m }
 }
@@ -67,7 +67,7 @@ fn mask_of(r: Core, b: u16, m: u16) -> u16
 // No stop: the registers of the process at q, which is in module k.
 fn resume(r: Core, table: &[u16; TABLE_WORDS], store: &[u16], k: usize, b: u16, q: u16) -> Stepped
     requires { (k < most_modules) × (sized (length store.now) q (process_at store.now q) ≡ true) }
-    ensures* { λ x. ⌜ x ≡ stepped 0 0 (resumed table.now k b q (process_at store.now q) r) ⌝ }
+    ensures { result ≡ stepped 0 0 (resumed table.now k b q (process_at store.now q) r) }
 {
     let i = q as usize;
     let at = word_at(store, i + 2) as usize;
@@ -107,7 +107,7 @@ fn resume(r: Core, table: &[u16; TABLE_WORDS], store: &[u16], k: usize, b: u16, 
 
 fn write_record(store: &mut [u16], p: usize, g: u16, l: u16, at: u16, mask: u16, s: u16, v: u16)
     requires { p + 8 ≤ length store.old }
-    ensures* { λ q. ⌜ store.new ≡ written (g ∷ l ∷ at ∷ mask ∷ s ∷ v ∷ []) p store.old ⌝ }
+    ensures { store.new ≡ written (g ∷ l ∷ at ∷ mask ∷ s ∷ v ∷ []) p store.old }
 {
     store[p] = g;
     store[p + 1] = l;
@@ -121,7 +121,7 @@ fn write_record(store: &mut [u16], p: usize, g: u16, l: u16, at: u16, mask: u16,
 fn save_process(r: Core, stack: &[u16; 16], store: &mut [u16], d: usize, c: usize, to: usize)
     requires roomy { Roomy (length store.old) r }
     requires d_bound { (d ≤ 16) × (c < length store.old) × (r.start ≤ to) × (to - r.start < 65536) }
-    ensures* { λ q. ⌜ store.new ≡ saved_store r.g.0 (position (to - r.start)) c (held r stack.now store.old []) d ⌝ }
+    ensures { store.new ≡ saved_store r.g.0 (position (to - r.start)) c (held r stack.now store.old []) d }
 {
     let s = r.s.0 as usize;
     save_stack(stack, store, d, s);
@@ -155,7 +155,7 @@ fn exchange(
     requires n_bound { (n ≤ 16) × (a + n ≤ length store.old) }
     requires roomy { Roomy (length store.old) r }
     requires d_bound { (d ≤ 16) × (c < length store.old) × (r.start ≤ to) × (to - r.start < 65536) }
-    ensures* { λ q. ⌜ (stack.new ≡ restored store.old n a (replicate 16 0)) × (store.new ≡ saved_store r.g.0 (position (to - r.start)) c (held r stack.old store.old []) d) ⌝ }
+    ensures { (stack.new ≡ restored store.old n a (replicate 16 0)) × (store.new ≡ saved_store r.g.0 (position (to - r.start)) c (held r stack.old store.old []) d) }
 {
     let words = words_at(store, a, n);
     save_process(r, stack, store, d, c, to);
@@ -165,7 +165,7 @@ fn exchange(
 // The module of the process whose record is at q, or MOST_MODULES where none can go on there.
 fn target(table: &[u16; TABLE_WORDS], map: &[u32], store: &[u16], q: u16) -> usize
     requires { Mapped table.now map.now }
-    ensures* { λ k. ⌜ k ≡ target_in table.now map.now store.now q ⌝ }
+    ensures { result ≡ target_in table.now map.now store.now q }
 {
     let i = q as usize;
     if !is_sized(store, i) {
@@ -196,7 +196,7 @@ fn change(
     requires k_lt_most_modules { (k < most_modules) × (sized (length store.old) q (process_at store.old q) ≡ true) }
     requires roomy { Roomy (length store.old) r }
     requires d_bound { (d ≤ 16) × (c < length store.old) × (r.start ≤ to) × (to - r.start < 65536) }
-    ensures* { λ x. ⌜ (x ≡ stepped 0 0 (resumed table.now k b q (process_at store.old q) r)) × (stack.new ≡ restored store.old (process_at store.old q).k ((process_at store.old q).s - 1 - (process_at store.old q).k) (replicate 16 0)) × (store.new ≡ saved_store r.g.0 (position (to - r.start)) c (held r stack.old store.old []) d) ⌝ }
+    ensures { (result ≡ stepped 0 0 (resumed table.now k b q (process_at store.old q) r)) × (stack.new ≡ restored store.old (process_at store.old q).k ((process_at store.old q).s - 1 - (process_at store.old q).k) (replicate 16 0)) × (store.new ≡ saved_store r.g.0 (position (to - r.start)) c (held r stack.old store.old []) d) }
 {
     let s = word_at(store, q as usize + 4) as usize;
     let n = word_at(store, s - 1) as usize;
@@ -219,7 +219,7 @@ pub fn transfer(
     requires framed { Framed table.now (length store.old) r }
     requires anchored { Anchored table.now r }
     requires lt_depth { (1 < r.depth) × (r.start ≤ to) × (to - r.start < 65536) }
-    ensures* { λ x. ⌜ ((lent : Lent) (bytes words : List ℕ) → Lends bytes table.now map.now words lent → (out : List ℕ) → result x stack.new store.new out ≡ acted lent (Act.Transfer b) to r stack.old store.old out) × Anchored table.now x.core ⌝ }
+    ensures { ((lent : Lent) (bytes words : List ℕ) → Lends bytes table.now map.now words lent → (out : List ℕ) → result_of result stack.new store.new out ≡ acted lent (Act.Transfer b) to r stack.old store.old out) × Anchored table.now result.core }
 {
     let a = top_of(r, stack) as usize;
     if store.len() <= a {
@@ -256,7 +256,7 @@ pub fn take_line(
     requires framed { Framed table.now (length store.old) r }
     requires anchored { Anchored table.now r }
     requires i_bound { (i < 16) × (32 ≤ length store.old) × (r.pc - r.start < 65536) }
-    ensures* { λ x. ⌜ ((lent : Lent) (bytes words : List ℕ) → Lends bytes table.now map.now words lent → (out : List ℕ) → result x stack.new store.new out ≡ left_by (held r stack.old store.old out) (taken_line lent i (held r stack.old store.old out))) × Anchored table.now x.core ⌝ }
+    ensures { ((lent : Lent) (bytes words : List ℕ) → Lends bytes table.now map.now words lent → (out : List ℕ) → result_of result stack.new store.new out ≡ left_by (held r stack.old store.old out) (taken_line lent i (held r stack.old store.old out))) × Anchored table.now result.core }
 {
     let from = 2 * i;
     let q = word_at(store, from);
@@ -282,7 +282,7 @@ pub fn take_line(
 fn catcher(table: &[u16; TABLE_WORDS], map: &[u32], store: &[u16], p: u16, number: u32) -> usize
     requires mapped { Mapped table.now map.now }
     requires in_bounds { 32 ≤ length store.now }
-    ensures* { λ k. ⌜ k ≡ catcher_in table.now map.now store.now p number ⌝ }
+    ensures { result ≡ catcher_in table.now map.now store.now p number }
 {
     if number < 32 {
         return MOST_MODULES;
@@ -307,7 +307,7 @@ fn resume_noted(
     number: u16,
 ) -> Stepped
     requires { (k < most_modules) × (sized (length store.old) q (process_at store.old q) ≡ true) × (r.p.0 + 8 ≤ length store.old) }
-    ensures* { λ x. ⌜ (x ≡ stepped 0 0 (resumed table.now k 1 q (process_at store.old q) r)) × (store.new ≡ set store.old (r.p.0 + 6) number) ⌝ }
+    ensures { (result ≡ stepped 0 0 (resumed table.now k 1 q (process_at store.old q) r)) × (store.new ≡ set store.old (r.p.0 + 6) number) }
 {
     let p = r.p.0 as usize;
     let next = resume(r, table, store, k, 1, q);
@@ -331,7 +331,7 @@ pub fn catch_trap(
     requires framed { Framed table.now (length store.old) r }
     requires anchored { Anchored table.now r }
     requires number_bound { (number < 65536) × (32 ≤ length store.old) × (r.pc - r.start < 65536) }
-    ensures* { λ x. ⌜ ((lent : Lent) (bytes words : List ℕ) → Lends bytes table.now map.now words lent → (j : Stop) → stop_number j ≡ number → stop_code j ≡ code → (out : List ℕ) → result x stack.new store.new out ≡ left_by (held r stack.old store.old out) (trap_of lent j (held r stack.old store.old out))) × Anchored table.now x.core ⌝ }
+    ensures { ((lent : Lent) (bytes words : List ℕ) → Lends bytes table.now map.now words lent → (j : Stop) → stop_number j ≡ number → stop_code j ≡ code → (out : List ℕ) → result_of result stack.new store.new out ≡ left_by (held r stack.old store.old out) (trap_of lent j (held r stack.old store.old out))) × Anchored table.now result.core }
 {
     let k = catcher(table, map, store, r.p.0, number);
     if k == MOST_MODULES {

@@ -6,7 +6,7 @@ ghost use Rattle.depths.specs.Lent.{Copied};
 use mcode::{MOST_MODULES, Program};
 
 // How many records each module has, and where they begin in the image.
-#[derive(Drop)]
+#[derive(Clone, Copy)]
 pub struct Records {
     pub procs: [u16; MOST_MODULES],
     pub tables: [usize; MOST_MODULES],

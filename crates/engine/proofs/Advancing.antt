@@ -22,7 +22,7 @@ use Rattle.mcode.proofs.Requests.{highest-line, line_step, line-tally, below-lin
 use Rattle.mcode.proofs.Traps.{step-goes-on}
 use Rattle.actions.specs.declared.Core.{Core}
 use Rattle.actions.specs.declared.Stepped.{Stepped}
-use Rattle.actions.specs.Core.{left_by, held, result}
+use Rattle.actions.specs.Core.{left_by, held, result_of}
 use Rattle.actions.specs.Table.{Anchored}
 use Rattle.control.specs.Table.{Mapped}
 use Rattle.control.specs.Frames.{Framed}
@@ -70,9 +70,9 @@ module _ (image table map inputs : List ℕ) (r : Core) (stack store outputs : L
   tally-is : (c : ℕ) {o : OutcomeOf State} → taken_line lent i x ≡ o → attempt_tally lent (tally (live x w) c) ≡ tallied c (leaving (w - 2 ^ i) o)
   tally-is c p = line-tally lent (live x w) c taken ∙ ap (tallied c) (step_is p)
 
-  module _ (s : Stepped) (st so : List ℕ) (e : result s st so outputs ≡ left_by (held r stack store outputs) (taken_line (lent_to image map inputs) i (held r stack store outputs))) (a : Anchored table s.core) where
+  module _ (s : Stepped) (st so : List ℕ) (e : result_of s st so outputs ≡ left_by (held r stack store outputs) (taken_line (lent_to image map inputs) i (held r stack store outputs))) (a : Anchored table s.core) where
     gone : s.stop ≡ 0 → taken_line lent i x ≡ go (held s.core st so outputs)
-    gone z = went_on x (taken_line lent i x) (result s st so outputs) e z
+    gone z = went_on x (taken_line lent i x) (result_of s st so outputs) e z
 
     pub line-goes : s.stop ≡ 0 → (v : ℕ) → v ≡ w - 2 ^ i → (c : ℕ) → let b : Advanced = record { stop = 0; code = 0; left = left - 1; requests = v; core = s.core } in
         Advances (attempt_tally lent) left (tally (live x w) c) b (advanced_to b st so outputs c)
@@ -91,8 +91,8 @@ module _ (image table map inputs : List ℕ) (r : Core) (stack store outputs : L
     line-keeps z = ready_on s.core st so outputs R a (preserves lent R.prepared.fits (live x w) (live (held s.core st so outputs) (w - 2 ^ i)) R.good R.outputs (step-goes-on lent (live x w) _ (step_is (gone z))))
 
     module _ (n : s.stop ≡ 0 → ⊥) where
-      fails : Stopped x (taken_line lent i x) (result s st so outputs)
-      fails = stopped x (taken_line lent i x) (result s st so outputs) e n
+      fails : Stopped x (taken_line lent i x) (result_of s st so outputs)
+      fails = stopped x (taken_line lent i x) (result_of s st so outputs) e n
 
       pub line-fails : (v : ℕ) → v ≡ w → (c : ℕ) → let b : Advanced = record { stop = s.stop; code = s.code; left = left; requests = v; core = s.core } in Advances (attempt_tally lent) left (tally (live x w) c) b (advanced_to b st so outputs c)
       line-fails v same c =

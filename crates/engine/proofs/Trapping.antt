@@ -17,7 +17,7 @@ use Rattle.mcode.proofs.Tallies.{tallied-halts}
 use Rattle.mcode.proofs.Traps.{step-traps, tally-traps, tallies-follow}
 use Rattle.mcode.proofs.Points.{preserves}
 use Rattle.actions.specs.declared.Stepped.{Stepped}
-use Rattle.actions.specs.Core.{Left, left_by, held, result}
+use Rattle.actions.specs.Core.{Left, left_by, held, result_of}
 use Rattle.actions.specs.Table.{Anchored}
 use Rattle.control.specs.Table.{Mapped}
 use Rattle.control.specs.Frames.{Framed}
@@ -71,17 +71,17 @@ module _ (image table map inputs : List ℕ) (left : ℕ) (x : Tally Live) (a : 
   finds =
       ⊎_elim (λ q. inl (q.0, omega (arith, q.1, A.most))) (λ q. inr (omega (arith, q.0), tallied-halts (bit_or c (attempt_read lent at)) (attempt_of lent at) k q.1)) (rw (← A.stops n) at (compose.run_ends (attempt_tally lent) left x))
 
-  module _ (t : Stepped) (st' so' : List ℕ) (T : result t st' so' ou ≡ left_by (held a.core st so ou) (trapped (lent_to image map inputs) (stop_of a.stop a.code) (held a.core st so ou))) (anchored : Anchored table t.core) where
+  module _ (t : Stepped) (st' so' : List ℕ) (T : result_of t st' so' ou ≡ left_by (held a.core st so ou) (trapped (lent_to image map inputs) (stop_of a.stop a.code) (held a.core st so ou))) (anchored : Anchored table t.core) where
     abbrev there : State
     there = held t.core st' so' ou
 
     -- spent is answered as spent
-    spends : k ≡ Spent → result t st' so' ou ≡ record { stop = 30; code = 0; state = here }
+    spends : k ≡ Spent → result_of t st' so' ou ≡ record { stop = 30; code = 0; state = here }
     spends s = T ∙ ap (left_by here) (ap (λ (j : Stop). trapped lent j here) s ∙ not-spent lent here)
 
     module _ (z : t.stop ≡ 0) where
       went : trapped lent k here ≡ go there
-      went = went_on here (trapped lent k here) (result t st' so' ou) T z
+      went = went_on here (trapped lent k here) (result_of t st' so' ou) T z
 
       caught : (1 ≤ a.left) × (trapped lent k here ≡ go there) × (attempt_of lent at ≡ halt k)
       caught = by finds
@@ -111,8 +111,8 @@ module _ (image table map inputs : List ℕ) (left : ℕ) (x : Tally Live) (a : 
       trap-keeps = ready_on t.core st' so' ou R anchored (preserves lent R.prepared.fits at (live there a.requests) R.good R.outputs (step-traps lent at k caught.2 ∙ ap (leaving a.requests) caught.1))
 
     module _ (m : t.stop ≡ 0 → ⊥) where
-      fails : Stopped here (trapped lent k here) (result t st' so' ou)
-      fails = stopped here (trapped lent k here) (result t st' so' ou) T m
+      fails : Stopped here (trapped lent k here) (result_of t st' so' ou)
+      fails = stopped here (trapped lent k here) (result_of t st' so' ou) T m
 
       stop : stop_of t.stop t.code ≡ fails.why
       stop = ap₂ stop_of fails.number fails.code ∙ stop-back fails.why

@@ -22,7 +22,7 @@ use Rattle.mcode.proofs.Points.{instruction-preserves}
 use Rattle.mcode.proofs.Standing.{good_of}
 use Rattle.actions.specs.declared.Core.{Core}
 use Rattle.actions.specs.declared.Stepped.{Stepped}
-use Rattle.actions.specs.Core.{Left, shown, held, result, read_at, unites}
+use Rattle.actions.specs.Core.{Left, shown, held, result_of, read_at, unites}
 use Rattle.actions.specs.Table.{Anchored}
 use Rattle.execute.specs.Stepping.{turned, opcode_at, chosen_op, Asks, Prepared}
 use Rattle.execute.proofs.Laws.{read_is}
@@ -161,12 +161,12 @@ module _ (image table map inputs : List ℕ) where
     pub listed : 1 ≤ get_or lengths (opcode_at image r) 0
     listed = listed_of image table map (length store) G.ready.prepared stack r G.ready.good G.ready.anchored
 
-    module _ (q : Stepped) (st so ou : List ℕ) (u : ℕ) (e : result q st so ou ≡ turned lent (left - 1) (held r stack store outputs))
+    module _ (q : Stepped) (st so ou : List ℕ) (u : ℕ) (e : result_of q st so ou ≡ turned lent (left - 1) (held r stack store outputs))
         (d : u ≡ unites q.stop v (read_at (chosen_op (left - 1) (opcode_at image r)) r stack)) (a : Anchored table q.core) where
       -- the channel is the definition's
       taken : q.stop ≡ 0 → u ≡ bit_or v (read_of lent (held r stack store outputs))
       taken z =
-          let m = turn_more lent (held r stack store outputs) (result q st so ou) (left - 1) e z in
+          let m = turn_more lent (held r stack store outputs) (result_of q st so ou) (left - 1) e z in
           let f : u ≡ bit_or v (read_at (opcode_at image r) r stack) = rw (eq-eqb q.stop 0 z, ne_eqb (left - 1) 0 (λ k. omega (arith, m, k))) at d in
           f ∙ ap (bit_or v) (read_is r stack store outputs (lends inputs G.ready.prepared) G.ready.anchored)
 
@@ -176,7 +176,7 @@ module _ (image table map inputs : List ℕ) where
       pub goes_on : q.stop ≡ 0 → Going image table map inputs w n first (left - 1) q.core st so ou u
       goes_on z =
           let x = held r stack store outputs in
-          let l = result q st so ou in
+          let l = result_of q st so ou in
           let R = G.ready in
           let went = turn-went lent x l (left - 1) e z in
           let kept = instruction-preserves lent R.prepared.fits x R.good R.outputs l.state went in
@@ -192,14 +192,14 @@ module _ (image table map inputs : List ℕ) where
       pub stops_so : (q.stop ≡ 0 → ⊥) → ◌≡◌ {A = RunEnd (Tally State)} (record { stop = stop_of q.stop q.code; count = n - (left - 1); state = tally (held q.core st so ou) u }) (run_n (instruction_tally lent) n first)
       stops_so s =
           let p : n + 1 - left ≡ n - (left - 1) = omega (arith, G.more) in
-          turn-stop lent (held r stack store outputs) (result q st so ou) v u taken untaken n (left - 1) (omega (arith, G.most, G.more)) e s ∙ sym (rw p at G.rest)
+          turn-stop lent (held r stack store outputs) (result_of q st so ou) v u taken untaken n (left - 1) (omega (arith, G.most, G.more)) e s ∙ sym (rw p at G.rest)
 
       pub named : (q.stop ≡ 0 → ⊥) → Names q.stop q.code
-      named s = turn-names lent (held r stack store outputs) (result q st so ou) (left - 1) e s
+      named s = turn-names lent (held r stack store outputs) (result_of q st so ou) (left - 1) e s
 
       -- the machine stands where it stopped
       pub stands-still : (q.stop ≡ 0 → ⊥) → Ready image table map (length so) (length ou) (length inputs) q.core st
-      stands-still s = still (stop-same lent (held r stack store outputs) (result q st so ou) (left - 1) e s) a G.ready
+      stands-still s = still (stop-same lent (held r stack store outputs) (result_of q st so ou) (left - 1) e s) a G.ready
 
 -- a machine's module is one of the table
 pub loaded-few : (image table map : List ℕ) (w : ℕ) → Prepared image table map w → (m : Machine) → is_machine (parse image).program map w m ≡ true → m.registers.unit < most_modules

@@ -18,7 +18,7 @@ use Rattle.mcode.proofs.Standing.{good_of}
 use Rattle.mcode.proofs.Points.{instruction-preserves, quiet-preserves}
 use Rattle.actions.specs.declared.Core.{Core}
 use Rattle.actions.specs.declared.Stepped.{Stepped}
-use Rattle.actions.specs.Core.{Left, left_by, shown, held, result, read_at, unites}
+use Rattle.actions.specs.Core.{Left, left_by, shown, held, result_of, read_at, unites}
 use Rattle.actions.specs.Table.{Lends, Anchored}
 use Rattle.control.specs.Table.{Mapped}
 use Rattle.control.specs.Frames.{Framed}
@@ -79,7 +79,7 @@ module _ {image table map : List ℕ} (inputs : List ℕ) (x : State) (P : Prepa
   few (halt j) e = rw e (omega (arith, stop-most j))
 
   -- what settling the instruction's answer asks
-  pub asks-settle : {s : Stepped} {st so out : List ℕ} → result s st so out ≡ left_by x (instruction_of lent x) → Anchored table s.core
+  pub asks-settle : {s : Stepped} {st so out : List ℕ} → result_of s st so out ≡ left_by x (instruction_of lent x) → Anchored table s.core
       → Mapped table map × (Framed table (length so) s.core × (Anchored table s.core × ((s.stop < 65536) × (32 ≤ length so) × (s.core.pc - s.core.start < 65536))))
   asks-settle {s} {st} {so} {out} e a =
       let (g, w, o) = kept (instruction_of lent x) (λ y i. instruction-preserves lent P.fits x good outs y i) e in
@@ -88,9 +88,9 @@ module _ {image table map : List ℕ} (inputs : List ℕ) (x : State) (P : Prepa
       let n = pc-near Q (machine (shown s.core) st) g in
       (A.mapped, (A.controls.framed, (a, (few (instruction_of lent x) e, Q.roomy, omega (arith, n)))))
 
-  pub settled-step : (s t : Stepped) {st so st' so' out : List ℕ} → result s st so out ≡ left_by x (instruction_of lent x)
-      → ((lent : Lent) (bytes words : List ℕ) → Lends bytes table map words lent → (y : State) (o : Outcome) (out : List ℕ) → result s st so out ≡ left_by y o → result t st' so' out ≡ left_by y (handled (λ k. trapped lent k y) o))
-      → result t st' so' out ≡ left_by x (quiet_of lent x)
+  pub settled-step : (s t : Stepped) {st so st' so' out : List ℕ} → result_of s st so out ≡ left_by x (instruction_of lent x)
+      → ((lent : Lent) (bytes words : List ℕ) → Lends bytes table map words lent → (y : State) (o : Outcome) (out : List ℕ) → result_of s st so out ≡ left_by y o → result_of t st' so' out ≡ left_by y (handled (λ k. trapped lent k y) o))
+      → result_of t st' so' out ≡ left_by x (quiet_of lent x)
   unfolding quiet_of
   settled-step s t {out = out} e f = f lent image inputs (lends inputs P) x (instruction_of lent x) out e
 

@@ -4,7 +4,7 @@
 ghost use Rattle.std.specs.Prelude.{◌≡◌, ◌≤◌, length, get_or};
 ghost use Rattle.mcode.specs.Opcode.{lengths};
 ghost use Rattle.mcode.specs.Step.{Lent};
-ghost use Rattle.actions.specs.Core.{held, result, performed, read_at, unites, operand_at};
+ghost use Rattle.actions.specs.Core.{held, result_of, performed, read_at, unites, operand_at};
 ghost use Rattle.actions.specs.Table.{Anchored, Lends};
 ghost use Rattle.execute.specs.Stepping.{Asks, opcode_at, chosen_op, turned};
 
@@ -37,7 +37,7 @@ fn perform(
 ) -> Stepped
     requires asks { Asks image.now table.now map.now (length store.old) op r }
     requires inputs_len { (length inputs.now ≡ 16) × (length outputs.old ≡ 16) }
-    ensures* { λ q. ⌜ ((lent : Lent) → Lends image.now table.now map.now inputs.now lent → result q stack.new store.new outputs.new ≡ performed lent op (operand_at image.now r) r stack.old store.old outputs.old) × (taken.new ≡ unites q.stop taken.old (read_at op r stack.old)) × Anchored table.now q.core ⌝ }
+    ensures { ((lent : Lent) → Lends image.now table.now map.now inputs.now lent → result_of result stack.new store.new outputs.new ≡ performed lent op (operand_at image.now r) r stack.old store.old outputs.old) × (taken.new ≡ unites result.stop taken.old (read_at op r stack.old)) × Anchored table.now result.core }
 {
     match op / 16 {
         0 => row0(op, r, stack),
@@ -62,7 +62,7 @@ fn perform(
 }
 
 fn chosen(left: u64, op: u8) -> u8
-    ensures* { λ q. ⌜ q ≡ chosen_op left op ⌝ }
+    ensures { result ≡ chosen_op left op }
 {
     if left == 0 { SPENT } else { op }
 }
@@ -82,7 +82,7 @@ pub fn turn(
 ) -> Stepped
     requires asks { Asks image.now table.now map.now (length store.old) (opcode_at image.now r) r }
     requires bound { (1 ≤ get_or lengths (opcode_at image.now r) 0) × (length inputs.now ≡ 16) × (length outputs.old ≡ 16) }
-    ensures* { λ q. ⌜ ((lent : Lent) → Lends image.now table.now map.now inputs.now lent → result q stack.new store.new outputs.new ≡ turned lent left (held r stack.old store.old outputs.old)) × (taken.new ≡ unites q.stop taken.old (read_at (chosen_op left (opcode_at image.now r)) r stack.old)) × Anchored table.now q.core ⌝ }
+    ensures { ((lent : Lent) → Lends image.now table.now map.now inputs.now lent → result_of result stack.new store.new outputs.new ≡ turned lent left (held r stack.old store.old outputs.old)) × (taken.new ≡ unites result.stop taken.old (read_at (chosen_op left (opcode_at image.now r)) r stack.old)) × Anchored table.now result.core }
 {
     let i = r.pc;
     let op = chosen(left, image[i]);

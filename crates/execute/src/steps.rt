@@ -6,7 +6,7 @@ ghost use Rattle.mcode.specs.Machine as M;
 ghost use Rattle.mcode.specs.Machine.{State, is_machine, state, Outcome, handled};
 ghost use Rattle.mcode.specs.Step.{Lent, trapped, quiet_of, quiet_read};
 ghost use Rattle.mcode.specs.Run.{lent_to};
-ghost use Rattle.actions.specs.Core.{shown, result, left_by};
+ghost use Rattle.actions.specs.Core.{shown, result_of, left_by};
 ghost use Rattle.actions.specs.Table.{Anchored, Lends};
 ghost use Rattle.control.specs.Table.{Mapped};
 ghost use Rattle.control.specs.Frames.{Framed};
@@ -31,7 +31,7 @@ pub struct Next {
 // The registers with the numbers of their module.
 pub fn core_of(registers: Registers, table: &[u16; TABLE_WORDS]) -> Core
     requires { registers.unit < most_modules }
-    ensures* { λ q. ⌜ (shown q ≡ registers) × Anchored table.now q ⌝ }
+    ensures { (shown result ≡ registers) × Anchored table.now result }
 {
     let k = registers.unit as usize;
     let at = registers.pc.0 as usize;
@@ -63,7 +63,7 @@ pub fn core_of(registers: Registers, table: &[u16; TABLE_WORDS]) -> Core
 // The machine of these registers.
 pub fn machine_of(r: Core, stack: [u16; 16]) -> Machine
     requires { (r.unit < most_modules) × (r.start ≤ r.pc) × (r.pc - r.start ≤ 32767) }
-    ensures* { λ q. ⌜ q ≡ M.machine (shown r) stack ⌝ }
+    ensures { result ≡ M.machine (shown r) stack }
 {
     let unit = r.unit as u8;
     let place = (r.pc - r.start) as u16;
@@ -99,7 +99,7 @@ fn settle(
     requires framed { Framed table.now (length store.old) s.core }
     requires anchored { Anchored table.now s.core }
     requires stop_bound { (s.stop < 65536) × (32 ≤ length store.old) × (s.core.pc - s.core.start < 65536) }
-    ensures* { λ t. ⌜ ((lent : Lent) (bytes words : List ℕ) → Lends bytes table.now map.now words lent → (x : State) (o : Outcome) (out : List ℕ) → result s stack.old store.old out ≡ left_by x o → result t stack.new store.new out ≡ left_by x (handled (λ k. trapped lent k x) o)) × Anchored table.now t.core ⌝ }
+    ensures { ((lent : Lent) (bytes words : List ℕ) → Lends bytes table.now map.now words lent → (x : State) (o : Outcome) (out : List ℕ) → result_of s stack.old store.old out ≡ left_by x o → result_of result stack.new store.new out ≡ left_by x (handled (λ k. trapped lent k x) o)) × Anchored table.now result.core }
 {
     if s.stop == 0 {
         return s;
@@ -121,8 +121,8 @@ pub fn step(
     requires prepared { Prepared image.now table.now map.now (length store.old) }
     requires machine_value { is_machine (parse image.now).program map.now (length store.old) machine ≡ true }
     requires inputs_len { (length inputs.now ≡ 16) × (length outputs.old ≡ 16) }
-    ensures* outputs_after { λ q. ⌜ answered q store.new outputs.new ≡ left_by (state machine store.old outputs.old) (quiet_of (lent_to image.now map.now inputs.now) (state machine store.old outputs.old)) ⌝ }
-    ensures* channels_value { λ q. ⌜ q.channels ≡ quiet_read (lent_to image.now map.now inputs.now) (state machine store.old outputs.old) ⌝ }
+    ensures outputs_after { answered result store.new outputs.new ≡ left_by (state machine store.old outputs.old) (quiet_of (lent_to image.now map.now inputs.now) (state machine store.old outputs.old)) }
+    ensures channels_value { result.channels ≡ quiet_read (lent_to image.now map.now inputs.now) (state machine store.old outputs.old) }
 {
     let registers = machine.registers;
     let mut stack = machine.stack;

@@ -160,7 +160,7 @@ pub struct Module {
 pub const MOST_MODULES: usize = 21;
 
 // The modules of an image, and the word after the last one's data.
-#[derive(Drop)]
+#[derive(Clone, Copy)]
 pub struct Program {
     pub count: usize,
     pub end: usize,
@@ -182,7 +182,7 @@ pub enum Head {
 }
 
 // What reading an image finds: a refusal (0: none) beside the program, since an enum holds no array.
-#[derive(Drop)]
+#[derive(Clone, Copy)]
 pub struct Parsed {
     pub refusal: u16,
     pub program: Program,

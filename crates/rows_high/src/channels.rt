@@ -3,7 +3,7 @@ ghost use Rattle.std.specs.Prelude.{◌≡◌, ℕ, ◌+◌, ◌-◌, ◌≤◌,
 ghost use Rattle.mcode.specs.Opcode.{lengths};
 ghost use Rattle.mcode.specs.Step.{Lent};
 ghost use Rattle.mcode.specs.Word.{and};
-ghost use Rattle.actions.specs.Core.{result, instruction, read_at, unites, operand_at};
+ghost use Rattle.actions.specs.Core.{result_of, instruction, read_at, unites, operand_at};
 ghost use Rattle.actions.specs.Table.{Anchored, Lends, Ready};
 ghost use Rattle.control.specs.Frames.{Framed};
 ghost use Rattle.control.specs.Table.{Mapped};
@@ -18,7 +18,7 @@ use words::unsigned::within;
 
 // 252 to 255.
 fn compares(op: u8) -> bool
-    ensures* { λ b. ⌜ b ≡ and (leb 0o252 op) (leb op 0o255) ⌝ }
+    ensures { result ≡ and (leb 0o252 op) (leb op 0o255) }
 {
     if op < 0o252 {
         return false;
@@ -46,7 +46,7 @@ pub fn row10(
     requires mapped { Mapped table.now map.now }
     requires framed { Framed table.now (length store.old) r }
     requires anchored { Anchored table.now r }
-    ensures* { λ q. ⌜ ((lent : Lent) → Lends image.now table.now map.now inputs.now lent → result q stack.new store.new outputs.new ≡ instruction lent op (operand_at image.now r) r stack.old store.old outputs.old) × (taken.new ≡ unites q.stop taken.old (read_at op r stack.old)) × Anchored table.now q.core ⌝ }
+    ensures { ((lent : Lent) → Lends image.now table.now map.now inputs.now lent → result_of result stack.new store.new outputs.new ≡ instruction lent op (operand_at image.now r) r stack.old store.old outputs.old) × (taken.new ≡ unites result.stop taken.old (read_at op r stack.old)) × Anchored table.now result.core }
 {
     let to = r.pc + 1;
     if op == 0o241 {

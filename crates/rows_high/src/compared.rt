@@ -2,7 +2,7 @@
 ghost use Rattle.std.specs.Prelude.{◌≡◌, List, ℕ, ◌≤◌, ◌/◌, get_or};
 ghost use Rattle.mcode.specs.Opcode.{lengths};
 ghost use Rattle.mcode.specs.Step.{Lent};
-ghost use Rattle.actions.specs.Core.{result, instruction, Stays};
+ghost use Rattle.actions.specs.Core.{result_of, instruction, Stays};
 ghost use Rattle.rows_high.specs.Rows.{Stacked};
 
 use actions::compute::{one, three, trap, two};
@@ -18,7 +18,7 @@ pub fn row12(op: u8, r: Core, stack: &mut [u16; 16]) -> Stepped
     requires op_value { op / 16 ≡ 12 }
     requires bound { 1 ≤ get_or lengths op 0 }
     requires stacked { Stacked op r }
-    ensures* { λ q. ⌜ ((lent : Lent) (o : ℕ → ℕ) (store out : List ℕ) → result q stack.new store out ≡ instruction lent op o r stack.old store out) × Stays r q.core ⌝ }
+    ensures { ((lent : Lent) (o : ℕ → ℕ) (store out : List ℕ) → result_of result stack.new store out ≡ instruction lent op o r stack.old store out) × Stays r result.core }
 {
     let to = r.pc + 1;
     if op < 0o310 {

@@ -3,7 +3,7 @@ ghost use Rattle.std.specs.Prelude.{◌≡◌, List, ℕ, ◌≤◌, ◌<◌, �
 ghost use Rattle.mcode.specs.Opcode.{lengths};
 ghost use Rattle.mcode.specs.Depths.{front_of, entry};
 ghost use Rattle.mcode.specs.Step.{Lent};
-ghost use Rattle.actions.specs.Core.{result, instruction, Stays};
+ghost use Rattle.actions.specs.Core.{result_of, instruction, Stays};
 ghost use Rattle.actions.specs.Table.{Anchored, Lends};
 ghost use Rattle.control.specs.Frames.{Roomy};
 ghost use Rattle.rows_high.specs.Rows.{Stacked};
@@ -22,7 +22,7 @@ pub fn row11(op: u8, r: Core, map: &[u32], stack: &mut [u16; 16], store: &mut [u
     requires stacked { Stacked op r }
     requires roomy { Roomy (length store.old) r }
     requires pc_in_bounds { (r.pc < length map.now) × (op ≡ 0o260 → front_of (entry map.now r.pc) ≤ 15) }
-    ensures* { λ q. ⌜ ((lent : Lent) (bytes numbers words : List ℕ) → Lends bytes numbers map.now words lent → Anchored numbers r → (o : ℕ → ℕ) (out : List ℕ) → result q stack.new store.new out ≡ instruction lent op o r stack.old store.old out) × Stays r q.core ⌝ }
+    ensures { ((lent : Lent) (bytes numbers words : List ℕ) → Lends bytes numbers map.now words lent → Anchored numbers r → (o : ℕ → ℕ) (out : List ℕ) → result_of result stack.new store.new out ≡ instruction lent op o r stack.old store.old out) × Stays r result.core }
 {
     let to = r.pc + 1;
     if op < 0o273 {

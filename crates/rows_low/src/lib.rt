@@ -5,7 +5,7 @@ ghost use Rattle.std.specs.Prelude.{◌≡◌, true, List, ℕ, ◌≤◌, ◌<�
 ghost use Rattle.mcode.specs.Image.{most_modules, bases_of};
 ghost use Rattle.mcode.specs.Depths.{names_module};
 ghost use Rattle.mcode.specs.Step.{Lent};
-ghost use Rattle.actions.specs.Core.{result, instruction, operand_at, Stays};
+ghost use Rattle.actions.specs.Core.{result_of, instruction, operand_at, Stays};
 ghost use Rattle.actions.specs.Table.{Based, Ready};
 
 use actions::compute::{add_top, put_word};
@@ -18,7 +18,7 @@ use actions::{Core, Stepped, TABLE_WORDS};
 // 000 to 017 put 0 to 15.
 pub fn row0(op: u8, r: Core, stack: &mut [u16; 16]) -> Stepped
     requires { (op / 16 ≡ 0) × (r.depth < 16) × (r.start ≤ r.pc) × (r.pc ≤ 65535) }
-    ensures* { λ q. ⌜ ((lent : Lent) (o : ℕ → ℕ) (store out : List ℕ) → result q stack.new store out ≡ instruction lent op o r stack.old store out) × Stays r q.core ⌝ }
+    ensures { ((lent : Lent) (o : ℕ → ℕ) (store out : List ℕ) → result_of result stack.new store out ≡ instruction lent op o r stack.old store out) × Stays r result.core }
 {
     put_word(r, stack, wide(op), r.pc + 1)
 }
@@ -27,7 +27,7 @@ pub fn row0(op: u8, r: Core, stack: &mut [u16; 16]) -> Stepped
 fn operands(op: u8, r: Core, image: &[u8], stack: &mut [u16; 16]) -> Stepped
     requires op_value { (op / 16 ≡ 1) × (op < 0o24) }
     requires ready { Ready op r (length image.now) }
-    ensures* { λ q. ⌜ ((lent : Lent) (store out : List ℕ) → result q stack.new store out ≡ instruction lent op (operand_at image.now r) r stack.old store out) × Stays r q.core ⌝ }
+    ensures { ((lent : Lent) (store out : List ℕ) → result_of result stack.new store out ≡ instruction lent op (operand_at image.now r) r stack.old store out) × Stays r result.core }
 {
     match op {
         0o20 => put_word(r, stack, operand(r, image, 1), r.pc + 2),
@@ -55,7 +55,7 @@ pub fn row1(
     requires op_value { op / 16 ≡ 1 }
     requires ready { Ready op r (length image.now) }
     requires r_bound { names_module op ≡ true → operand_at image.now r 1 < most_modules }
-    ensures* { λ q. ⌜ ((lent : Lent) → Based table.now r (bases_of lent.program) → (store out : List ℕ) → result q stack.new store out ≡ instruction lent op (operand_at image.now r) r stack.old store out) × Stays r q.core ⌝ }
+    ensures { ((lent : Lent) → Based table.now r (bases_of lent.program) → (store out : List ℕ) → result_of result stack.new store out ≡ instruction lent op (operand_at image.now r) r stack.old store out) × Stays r result.core }
 {
     if op < 0o24 {
         return operands(op, r, image, stack);
@@ -96,7 +96,7 @@ pub fn row2(
     requires ready { Ready op r (length image.now) }
     requires r_bound { names_module op ≡ true → operand_at image.now r 1 < most_modules }
     requires store_len_bound { length store.now ≤ 65535 }
-    ensures* { λ q. ⌜ ((lent : Lent) → Based table.now r (bases_of lent.program) → (out : List ℕ) → result q stack.new store.now out ≡ instruction lent op (operand_at image.now r) r stack.old store.now out) × Stays r q.core ⌝ }
+    ensures { ((lent : Lent) → Based table.now r (bases_of lent.program) → (out : List ℕ) → result_of result stack.new store.now out ≡ instruction lent op (operand_at image.now r) r stack.old store.now out) × Stays r result.core }
 {
     if 0o43 < op {
         return load(r, stack, store, plus(r.l, wide(op - 0o40)), r.pc + 1);
@@ -134,7 +134,7 @@ pub fn row3(
     requires ready { Ready op r (length image.now) }
     requires r_bound { names_module op ≡ true → operand_at image.now r 1 < most_modules }
     requires store_len_bound { length store.old ≤ 65535 }
-    ensures* { λ q. ⌜ ((lent : Lent) → Based table.now r (bases_of lent.program) → (out : List ℕ) → result q stack.new store.new out ≡ instruction lent op (operand_at image.now r) r stack.old store.old out) × Stays r q.core ⌝ }
+    ensures { ((lent : Lent) → Based table.now r (bases_of lent.program) → (out : List ℕ) → result_of result stack.new store.new out ≡ instruction lent op (operand_at image.now r) r stack.old store.old out) × Stays r result.core }
 {
     if 0o63 < op {
         return save(r, stack, store, plus(r.l, wide(op - 0o60)), r.pc + 1);
@@ -164,7 +164,7 @@ pub fn row4(op: u8, r: Core, image: &[u8], stack: &mut [u16; 16], store: &[u16])
     requires op_value { op / 16 ≡ 4 }
     requires ready { Ready op r (length image.now) }
     requires store_len_bound { length store.now ≤ 65535 }
-    ensures* { λ q. ⌜ ((lent : Lent) (numbers : List ℕ) → Based numbers r (bases_of lent.program) → (out : List ℕ) → result q stack.new store.now out ≡ instruction lent op (operand_at image.now r) r stack.old store.now out) × Stays r q.core ⌝ }
+    ensures { ((lent : Lent) (numbers : List ℕ) → Based numbers r (bases_of lent.program) → (out : List ℕ) → result_of result stack.new store.now out ≡ instruction lent op (operand_at image.now r) r stack.old store.now out) × Stays r result.core }
 {
     if op == 0o100 {
         return load(r, stack, store, plus(r.g, operand(r, image, 1)), r.pc + 2);
@@ -180,7 +180,7 @@ pub fn row5(op: u8, r: Core, image: &[u8], stack: &mut [u16; 16], store: &mut [u
     requires op_value { op / 16 ≡ 5 }
     requires ready { Ready op r (length image.now) }
     requires store_len_bound { length store.old ≤ 65535 }
-    ensures* { λ q. ⌜ ((lent : Lent) (numbers : List ℕ) → Based numbers r (bases_of lent.program) → (out : List ℕ) → result q stack.new store.new out ≡ instruction lent op (operand_at image.now r) r stack.old store.old out) × Stays r q.core ⌝ }
+    ensures { ((lent : Lent) (numbers : List ℕ) → Based numbers r (bases_of lent.program) → (out : List ℕ) → result_of result stack.new store.new out ≡ instruction lent op (operand_at image.now r) r stack.old store.old out) × Stays r result.core }
 {
     if op == 0o120 {
         return save(r, stack, store, plus(r.g, operand(r, image, 1)), r.pc + 2);
@@ -194,7 +194,7 @@ pub fn row5(op: u8, r: Core, image: &[u8], stack: &mut [u16; 16], store: &mut [u
 // 140 to 157 load the word at a + 0 to a + 15.
 pub fn row6(op: u8, r: Core, stack: &mut [u16; 16], store: &[u16]) -> Stepped
     requires { (op / 16 ≡ 6) × (0 < r.depth) × (r.depth ≤ 16) × (r.start ≤ r.pc) × (r.pc ≤ 65535) }
-    ensures* { λ q. ⌜ ((lent : Lent) (o : ℕ → ℕ) (out : List ℕ) → result q stack.new store.now out ≡ instruction lent op o r stack.old store.now out) × Stays r q.core ⌝ }
+    ensures { ((lent : Lent) (o : ℕ → ℕ) (out : List ℕ) → result_of result stack.new store.now out ≡ instruction lent op o r stack.old store.now out) × Stays r result.core }
 {
     load_top(r, stack, store, wide(op - 0o140), r.pc + 1)
 }
@@ -202,7 +202,7 @@ pub fn row6(op: u8, r: Core, stack: &mut [u16; 16], store: &[u16]) -> Stepped
 // 160 to 177 store a at c + 0 to c + 15.
 pub fn row7(op: u8, r: Core, stack: &mut [u16; 16], store: &mut [u16]) -> Stepped
     requires { (op / 16 ≡ 7) × (1 < r.depth) × (r.depth ≤ 16) × (r.start ≤ r.pc) × (r.pc ≤ 65535) }
-    ensures* { λ q. ⌜ ((lent : Lent) (o : ℕ → ℕ) (out : List ℕ) → result q stack.new store.new out ≡ instruction lent op o r stack.old store.old out) × Stays r q.core ⌝ }
+    ensures { ((lent : Lent) (o : ℕ → ℕ) (out : List ℕ) → result_of result stack.new store.new out ≡ instruction lent op o r stack.old store.old out) × Stays r result.core }
 {
     save_below(r, stack, store, wide(op - 0o160), r.pc + 1)
 }

@@ -1,0 +1,8 @@
+use Rattle.mcode.specs.Step.{perform_of}
+use Rattle.actions.proofs.Laws.{stays-as}
+use Rattle.std.proofs.Common.{rules}
+use Rattle.actions.proofs.compute.trap.Goals as goal
+
+pub returns : goal.returns
+unfolding perform_of
+returns c = ((λ lent to store out. rw (← c.top_of.ensures, c.halted.ensures)), stays-as _ _ _ _ c.halted.ensures)

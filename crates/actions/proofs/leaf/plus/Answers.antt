@@ -1,0 +1,5 @@
+use Rattle.std.proofs.Common.{rules}
+use Rattle.actions.proofs.leaf.plus.Goals as goal
+
+pub returns : goal.returns
+returns c = rw c.wrapping_add_u16.ensures.value

@@ -1,0 +1,10 @@
+use Rattle.std.proofs.Common.{◌≡◌, ℕ, ◌-◌, ◌<◌, ◌≤◌, length, get_or, set, replicate, sym, refl, ◌∙◌, arith, length-set, get_or-set_other, get_or-set_same, ext_get_or, rules, below_none, below_more}
+use lib.ListN.{length-replicate, get_or-replicate}
+use Rattle.mcode.specs.Depths.{unmarked}
+use Rattle.depths.proofs.blank.Given as goal
+
+abbrev pub invariant-loop-i : goal.invariant-loop-i
+invariant-loop-i l = (l.i ≤ length l.map) × (length l.map ≡ length l.initial.map) × ((k : ℕ) → k < l.i → get_or l.map k unmarked ≡ unmarked)
+
+abbrev pub decreases-loop-i : goal.decreases-loop-i
+decreases-loop-i l = length l.map - l.i

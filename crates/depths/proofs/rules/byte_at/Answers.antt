@@ -1,0 +1,8 @@
+-- A byte of the image, 0 outside.
+use Rattle.std.proofs.Common.{◌-◌, sym, rules}
+use Rattle.mcode.specs.Word.{byte}
+use lib.ListN.{get_or-eq_default}
+use Rattle.depths.proofs.rules.byte_at.Goals as goal
+
+pub returns : goal.returns
+returns c = sym (get_or-eq_default c.args.s.now 0 c.if-i-s.false)

@@ -53,10 +53,9 @@ loop-turn-smaller c =
 
 pub loop-turn-preserved : goal.loop-turn-preserved
 loop-turn-preserved c =
-    let s = c in
     let g = rw c.in-Next.is at c.loop-turn.invariant.0 in
-    let reals = real-entry s.args.image.now s.args.count s.args.procs.now s.args.tables.now s.args.m s.requires.0.sound s.requires.0.placed in (
-      more-going (A-of s) (c.loop-turn.h + 1) c.loop-turn.map c.expand-turn.new.map c.expand-turn.new.work reals g.1 c.expand-turn.result c.expand-turn.ensures.0,
+    let reals = real-entry c.args.image.now c.args.count c.args.procs.now c.args.tables.now c.args.m c.requires.ready.sound c.requires.ready.placed in (
+      more-going ((depths_of c.args.image.now c.args.count c.args.procs.now c.args.tables.now c.args.m)) (c.loop-turn.h + 1) c.loop-turn.map c.expand-turn.new.map c.expand-turn.new.work reals g.1 c.expand-turn.result c.expand-turn.ensures.0,
       c.expand-turn.auto.map ∙ c.loop-turn.invariant.1,
       c.expand-turn.auto.work ∙ c.loop-turn.invariant.2,
       c.expand-turn.ensures.1,

@@ -29,14 +29,14 @@ returns-then-not-ok c =
     let a = c.args in
     let e = ap₂ (λ (q d : ℕ). eqb (get_or a.map.now q none) d) (sym c.entry_of-q.ensures) (sym c.entry_mark-d.ensures) ∙ sym c.has_mark-ok.ensures in
     sym (one-fails (proc_count a.m) (entry_fits a.image.now a.m a.map.now) c.loop-i.i
-    (omega (arith, c.proc_count-n.ensures.0, c.loop-i-test.true)) (e ∙ not-true c.has_mark-ok.result c.if-not-ok.true))
+    (omega (arith, c.proc_count-n.ensures.0, c.loop-i-test.true)) (e ∙ c.if-not-ok.true))
 
 pub loop-i-preserved : goal.loop-i-preserved
 loop-i-preserved c =
     let a = c.args in
     let e = ap₂ (λ (q d : ℕ). eqb (get_or a.map.now q none) d) (sym c.entry_of-q.ensures) (sym c.entry_mark-d.ensures) ∙ sym c.has_mark-ok.ensures in (
       omega arith,
-      below_more (λ (j : ℕ). entry_fits a.image.now a.m a.map.now j ≡ true) c.loop-i.i c.loop-i.invariant.1 (e ∙ not-false c.has_mark-ok.result c.if-not-ok.false),
+      below_more (λ (j : ℕ). entry_fits a.image.now a.m a.map.now j ≡ true) c.loop-i.i c.loop-i.invariant.1 (e ∙ c.if-not-ok.false),
     )
 
 pub returns : goal.returns

@@ -33,7 +33,7 @@ returns-then-not-ok c =
     let l = mark-real _ (and_both _ _ (sym c.has_floor.ensures ∙ c.if-has_floor.true)).0 in
     sym (one-fails A.size (mark_fits A a.map.now) p (omega (arith, c.requires.map_len.0, c.loop-p-test.true))
     (mark-tested a.image.now a.count a.procs.now a.tables.now a.m a.map.now p _ c.loop-p-test.true l c.position_fits-ok.ensures
-    ∙ not-true c.position_fits-ok.result c.if-not-ok.true))
+    ∙ c.if-not-ok.true))
 
 pub loop-p-smaller-then-has_floor : goal.loop-p-smaller-then-has_floor
 loop-p-smaller-then-has_floor c = position-less c.args.map.now c.loop-p.p c.loop-p.floor c.loop-p-test.true
@@ -48,7 +48,7 @@ loop-p-preserved-then-has_floor c =
       c.loop-p.invariant.1,
       below_more (λ (j : ℕ). mark_fits A a.map.now j ≡ true) p c.loop-p.invariant.2
           (mark-tested a.image.now a.count a.procs.now a.tables.now a.m a.map.now p _ c.loop-p-test.true l c.position_fits-ok.ensures
-          ∙ not-false c.position_fits-ok.result c.if-not-ok.false),
+          ∙ c.if-not-ok.false),
     )
 
 pub loop-p-smaller-then-mark : goal.loop-p-smaller-then-mark

@@ -11,10 +11,10 @@ pub loop-k-preserved : goal.loop-k-preserved
 loop-k-preserved c =
     let l = c.loop-k in (
       omega (arith, c.loop-k-test.true),
-      length-set l.procs l.k (module_of c.args.t1 l.k).procs ∙ l.invariant.1,
-      length-set l.tables l.k (module_of c.args.t1 l.k).table ∙ l.invariant.2,
-      set_more l.procs l.k (module_of c.args.t1 l.k).procs (λ j. (module_of c.args.t1 j).procs) (omega (arith, l.invariant.1, c.requires, c.loop-k-test.true)) l.invariant.3 refl,
-      set_more l.tables l.k (module_of c.args.t1 l.k).table (λ j. (module_of c.args.t1 j).table) (omega (arith, l.invariant.2, c.requires, c.loop-k-test.true)) l.invariant.4 refl,
+      length-set l.procs l.k (module_of c.args.program l.k).procs ∙ l.invariant.1,
+      length-set l.tables l.k (module_of c.args.program l.k).table ∙ l.invariant.2,
+      set_more l.procs l.k (module_of c.args.program l.k).procs (λ j. (module_of c.args.program j).procs) (omega (arith, l.invariant.1, c.requires, c.loop-k-test.true)) l.invariant.3 refl,
+      set_more l.tables l.k (module_of c.args.program l.k).table (λ j. (module_of c.args.program j).table) (omega (arith, l.invariant.2, c.requires, c.loop-k-test.true)) l.invariant.4 refl,
     )
 
 pub returns : goal.returns

@@ -1,0 +1,19 @@
+use mathlib.Core.Path.{sym, ◌∙◌}
+use Rattle.mcode.specs.Step.{back_to}
+use Rattle.actions.proofs.Laws.{stays-as}
+use Rattle.control.proofs.Laws.{stays-framed, from_start, after-start}
+use Rattle.control.proofs.Find.{standing-in}
+use native.Mathlib.Omega.{arith}
+use borrow.Author.Rules.{rules}
+use Rattle.control.proofs.frames.back_here.Goals as goal
+
+pub overflow_add-r : goal.overflow_add-r
+overflow_add-r c = omega (arith, c.requires.depth_bound.2, c.ranges.at)
+
+pub returns-then-stands : goal.returns-then-stands
+unfolding back_to
+returns-then-stands c = ((λ lent bytes words h stack out. rw (standing-in h _ _ _, sym c.stands.ensures ∙ c.if-stands.true, c.framed.ensures, from_start)), stays-framed _ _ _ _ c.args.r _ (after-start _ _) c.framed.ensures)
+
+pub returns : goal.returns
+unfolding back_to
+returns c = ((λ lent bytes words h stack out. rw (standing-in h _ _ _, sym c.stands.ensures ∙ c.if-stands.false, c.trapped.ensures)), stays-as _ _ _ _ c.trapped.ensures)

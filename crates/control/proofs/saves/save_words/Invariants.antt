@@ -1,0 +1,14 @@
+use mathlib.Core.Path.{◌≡◌, refl, sym, ◌∙◌}
+use Prim.Native.Nat.{◌+◌, ◌≤◌}
+use lib.ListN.{length, length-set}
+use Rattle.mcode.specs.Step.{saved}
+use Rattle.control.proofs.Words.{saved-on, saved-all}
+use native.Mathlib.Omega.{arith}
+use borrow.Author.Rules.{rules}
+use Rattle.control.proofs.saves.save_words.Given as goal
+
+abbrev pub invariant-loop-n : goal.invariant-loop-n
+invariant-loop-n l = (l.n ≤ l.d) × (l.i + l.n ≡ l.s + l.d) × (length l.store ≡ length l.initial.store) × (saved l.stack l.d l.s l.initial.store ≡ saved l.stack l.n l.i l.store)
+
+abbrev pub decreases-loop-n : goal.decreases-loop-n
+decreases-loop-n l = l.n

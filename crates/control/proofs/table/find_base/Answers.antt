@@ -1,0 +1,23 @@
+use native.Mathlib.Nat.{sub-zero}
+use mathlib.Core.Path.{◌≡◌, refl, sym, ◌∙◌}
+use Prim.Native.Nat.{◌≤◌, ◌-◌}
+use Rattle.control.specs.Table.{count_in, first_from, first_based}
+use Rattle.control.proofs.Find.{first-here, first_on, first-none}
+use native.Mathlib.Omega.{arith}
+use borrow.Author.Rules.{rules}
+use Rattle.control.proofs.table.find_base.Goals as goal
+
+pub loop-k-init : goal.loop-k-init
+loop-k-init c = (omega arith, c.count_of-count.ensures, rw (← c.count_of-count.ensures, sub-zero) refl)
+
+pub number-requires : goal.number-requires
+number-requires c = omega (arith, c.requires, c.loop-k.invariant.1, c.loop-k-test.true)
+
+pub returns-then-number-word : goal.returns-then-number-word
+returns-then-number-word c = sym (c.loop-k.invariant.2 ∙ first-here _ _ _ _ c.loop-k-test.true (sym c.number.ensures ∙ c.if-number-word.true))
+
+pub loop-k-preserved : goal.loop-k-preserved
+loop-k-preserved c = (omega (arith, c.loop-k-test.true), c.loop-k.invariant.1, c.loop-k.invariant.2 ∙ first_on _ _ _ _ c.loop-k-test.true (λ e. c.if-number-word.false (c.number.ensures ∙ e)))
+
+pub returns : goal.returns
+returns c = sym (c.loop-k.invariant.2 ∙ first-none _ _ _ _ c.loop-k.invariant.0 c.loop-k-test.false)

@@ -17,7 +17,7 @@ pub overflow_cast-to : goal.overflow_cast-to
 overflow_cast-to c = omega (arith, c.requires.n_bound)
 
 pub overflow_add-r : goal.overflow_add-r
-overflow_add-r c = omega (arith, c.requires.n_bound, c.entry_of-entry.type-inv)
+overflow_add-r c = omega (arith, c.requires.n_bound, c.entry_of-entry.type_inv)
 
 pub returns : goal.returns
 unfolding perform_of call

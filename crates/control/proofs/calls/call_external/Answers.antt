@@ -15,6 +15,6 @@ overflow_add-t c = omega (arith, c.if-h-s.false, c.struct_known-2-1.given)
 pub returns : goal.returns
 unfolding perform_of call
 returns c = (
-  (λ lent marks words h stack out. rw (le-ltb _ _ c.if-h-s.false, h.image, h.tabled.modules c.args.k (omega (arith, c.requires.entered.few, c.requires.k_bound.0)), (based h.tabled c.requires.anchored).own, ← c.entry_of-entry.ensures, c.in-module.ensures, c.write_external.ensures, from_start)),
-  anchored-in _ c.args.k _ _ _ c.args.r _ (omega (arith, c.requires.entered.few, c.requires.k_bound.0)) c.in-module.ensures,
+  (λ lent marks words h stack out. rw (le-ltb _ _ c.if-h-s.false, h.image, h.tabled.modules c.args.k (omega (arith, c.requires.entered.few, c.requires.k_bound.0)), (based h.tabled c.requires.anchored).own, ← c.entry_of-entry.ensures, c.in_module.ensures, c.write_external.ensures, from_start)),
+  anchored-in _ c.args.k _ _ _ c.args.r _ (omega (arith, c.requires.entered.few, c.requires.k_bound.0)) c.in_module.ensures,
 )

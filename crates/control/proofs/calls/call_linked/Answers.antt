@@ -20,7 +20,7 @@ pub overflow_sub-d : goal.overflow_sub-d
 overflow_sub-d c = omega (arith, c.requires.n_bound)
 
 pub overflow_add-r : goal.overflow_add-r
-overflow_add-r c = omega (arith, c.requires.n_bound, c.entry_of-entry.type-inv)
+overflow_add-r c = omega (arith, c.requires.n_bound, c.entry_of-entry.type_inv)
 
 pub returns : goal.returns
 unfolding perform_of call

@@ -13,7 +13,7 @@ unfolding back_to
 returns-then-stands c =
     let e = sym c.stands.ensures ∙ c.if-stands.true in
     let f = rw c.find_base-k.ensures at e in
-    ((λ lent bytes words h stack out. rw (find-stands h _ _ _ ∙ f, find h _ _ _ f, ← c.find_base-k.ensures, c.in-module.ensures, from_start)), anchored-in _ c.find_base-k.result _ _ _ c.args.r _ (stands-few _ _ _ _ _ c.requires.mapped e) c.in-module.ensures)
+    ((λ lent bytes words h stack out. rw (find-stands h _ _ _ ∙ f, find h _ _ _ f, ← c.find_base-k.ensures, c.in_module.ensures, from_start)), anchored-in _ c.find_base-k.result _ _ _ c.args.r _ (stands-few _ _ _ _ _ c.requires.mapped e) c.in_module.ensures)
 
 pub returns : goal.returns
 unfolding back_to

@@ -35,7 +35,7 @@ call_external-requires c =
 
 pub operand-requires-in_default : goal.operand-requires-in_default
 unfolding takens lefts lengths
-operand-requires-in_default c = let k = c.requires.controls (λ e. omega (arith, c.if-op-gt236.true, e)) in omega (arith, rw (is356 _ c.requires.op_value k.2 c.if-op-gt236.true c.in_default.rest) at k.0.ready)
+operand-requires-in_default c = let k = c.requires.controls (λ e. omega (arith, c.if-op-gt236.true, e)) in omega (arith, rw (is356 _ c.requires.op_value k.2 c.if-op-gt236.true c.in_default.in_default-own.rest) at k.0.ready)
 
 pub overflow_add-r-in_default : goal.overflow_add-r-in_default
 overflow_add-r-in_default c = let k = c.requires.controls (λ e. omega (arith, c.if-op-gt236.true, e)) in omega (arith, k.0.ready.near)
@@ -44,7 +44,7 @@ pub call_linked-requires : goal.call_linked-requires
 unfolding takens lefts lengths
 call_linked-requires c = 
     let k = c.requires.controls (λ e. omega (arith, c.if-op-gt236.true, e)) in
-    let q = is356 _ c.requires.op_value k.2 c.if-op-gt236.true c.in_default.rest in
+    let q = is356 _ c.requires.op_value k.2 c.if-op-gt236.true c.in_default.in_default-own.rest in
     record { entered = k.0.entered; framed = k.0.framed; n_bound = rw c.operand-in_default.ensures.0 (k.0.near (inl q), omega (arith, k.0.ready.own, k.0.ready.near), omega (arith, k.0.ready.own), omega (arith, k.0.inside, k.0.ready.own), omega (arith, rw q at k.0.ready)) }
 
 pub returns-in-237 : goal.returns-in-237
@@ -53,7 +53,7 @@ returns-in-237 c = ((λ lent words h out. rw (c.in-237.is, ← c.operand.ensures
 
 pub returns-in_default : goal.returns-in_default
 unfolding performed instruction decode_of row14
-returns-in_default c = let k = c.requires.controls (λ e. omega (arith, c.if-op-gt236.true, e)) in ((λ lent words h out. rw (is356 _ c.requires.op_value k.2 c.if-op-gt236.true c.in_default.rest, ← c.operand-in_default.ensures.0) (c.call_linked.ensures.0 lent _ words h out)), anchored-on c.requires.anchored c.call_linked.ensures.1)
+returns-in_default c = let k = c.requires.controls (λ e. omega (arith, c.if-op-gt236.true, e)) in ((λ lent words h out. rw (is356 _ c.requires.op_value k.2 c.if-op-gt236.true c.in_default.in_default-own.rest, ← c.operand-in_default.ensures.0) (c.call_linked.ensures.0 lent _ words h out)), anchored-on c.requires.anchored c.call_linked.ensures.1)
 
 pub operand-requires-in-232 : goal.operand-requires-in-232
 unfolding takens lefts lengths
@@ -75,10 +75,10 @@ load-requires c = let k = c.requires.controls (λ e. omega (arith, c.in-233.is, 
 
 pub operand-requires-in_default-op : goal.operand-requires-in_default-op
 unfolding takens lefts lengths
-operand-requires-in_default-op c = let k = c.requires.controls c.in_default-op.rest.0.0.1 in omega (arith, rw (is353 _ c.requires.op_value k.2 c.if-op-gt236.false c.if-op-eq236.false c.in_default-op.rest) at k.0.ready)
+operand-requires-in_default-op c = let k = c.requires.controls c.in_default-op.in_default-op-own.rest.0.0.1 in omega (arith, rw (is353 _ c.requires.op_value k.2 c.if-op-gt236.false c.if-op-eq236.false c.in_default-op.in_default-op-own.rest) at k.0.ready)
 
 pub overflow_add-r-in_default-op : goal.overflow_add-r-in_default-op
-overflow_add-r-in_default-op c = let k = c.requires.controls c.in_default-op.rest.0.0.1 in omega (arith, k.0.ready.near)
+overflow_add-r-in_default-op c = let k = c.requires.controls c.in_default-op.in_default-op-own.rest.0.0.1 in omega (arith, k.0.ready.near)
 
 pub enter-requires : goal.enter-requires
 enter-requires c = omega (arith, c.requires.anchored.own)
@@ -97,4 +97,4 @@ returns-in-233 c = ((λ lent words h out. rw (c.in-233.is, follow_one lent) (c.l
 
 pub returns-in_default-op : goal.returns-in_default-op
 unfolding performed instruction decode_of row14
-returns-in_default-op c = let k = c.requires.controls c.in_default-op.rest.0.0.1 in ((λ lent words h out. rw (is353 _ c.requires.op_value k.2 c.if-op-gt236.false c.if-op-eq236.false c.in_default-op.rest, ← c.operand-in_default-op.ensures.0) (c.enter.ensures.0 lent _ _ out)), anchored-on c.requires.anchored c.enter.ensures.1)
+returns-in_default-op c = let k = c.requires.controls c.in_default-op.in_default-op-own.rest.0.0.1 in ((λ lent words h out. rw (is353 _ c.requires.op_value k.2 c.if-op-gt236.false c.if-op-eq236.false c.in_default-op.in_default-op-own.rest, ← c.operand-in_default-op.ensures.0) (c.enter.ensures.0 lent _ _ out)), anchored-on c.requires.anchored c.enter.ensures.1)

@@ -34,10 +34,10 @@ pub resume_noted-next-requires : goal.resume_noted-next-requires
 resume_noted-next-requires c = (caught-few _ _ _ _ _ c.catcher-k.ensures c.if-k-eq-MOST_MODULES.false c.requires.mapped, caught-fits _ _ _ _ _ c.catcher-k.ensures c.if-k-eq-MOST_MODULES.false c.word_at-q.ensures, c.requires.framed.proc)
 
 pub save_process-requires : goal.save_process-requires
-save_process-requires c = let f = c.requires.framed in rw c.resume_noted-next.auto.1.1.0 ((f.low, f.high, f.proc, f.short), (f.most, omega (arith, c.requires.number_bound.1), c.requires.anchored.own, c.requires.number_bound.2))
+save_process-requires c = let f = c.requires.framed in rw c.resume_noted-next.auto.store (record { roomy = (f.low, f.high, f.proc, f.short); d_bound = (f.most, omega (arith, c.requires.number_bound.1), c.requires.anchored.own, c.requires.number_bound.2) })
 
 pub shape_of-store : goal.shape_of-store
-shape_of-store c = c.save_process.auto.1.1.0 ∙ c.resume_noted-next.auto.1.1.0
+shape_of-store c = c.save_process.auto.store ∙ c.resume_noted-next.auto.store
 
 pub returns : goal.returns
 returns c =

@@ -26,7 +26,7 @@ exchange-requires c =
     let z = sizes _ _ _ c.requires.k_lt_most_modules.1 in
     let few = rw (← c.word_at-s.ensures, ← c.word_at-n.ensures) at z.few in
     let below = rw (← c.word_at-s.ensures, ← c.word_at-n.ensures) at z.below in
-    ((few, omega (arith, below, z.inside, c.word_at-s.ensures)), c.requires.1)
+    record { n_bound = (few, omega (arith, below, z.inside, c.word_at-s.ensures)); roomy = c.requires.roomy; d_bound = c.requires.d_bound }
 
 pub returns : goal.returns
 returns c = (c.resume-next.ensures, rw (← c.word_at-s.ensures, ← c.word_at-n.ensures) c.exchange.ensures.0, c.exchange.ensures.1)

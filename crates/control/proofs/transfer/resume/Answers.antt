@@ -17,7 +17,7 @@ pub word_at-n-requires : goal.word_at-n-requires
 word_at-n-requires c = let z = sizes _ _ _ c.requires.1 in omega (arith, z.some, z.inside, c.word_at-above.ensures)
 
 pub overflow_add-pc : goal.overflow_add-pc
-overflow_add-pc c = omega (arith, c.number-start.type-inv, c.word_at-at.type-inv)
+overflow_add-pc c = omega (arith, c.number-start.type_inv, c.word_at-at.type_inv)
 
 pub word_at-frame-requires : goal.word_at-frame-requires
 word_at-frame-requires c = let z = sizes _ _ _ c.requires.1 in omega (arith, z.whole)

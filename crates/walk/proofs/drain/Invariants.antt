@@ -1,0 +1,18 @@
+use mathlib.Core.Path.{◌≡◌, refl, ◌∙◌, subst}
+use Prim.Native.Nat.{ℕ, ◌-◌}
+use lib.ListN.{length}
+use Rattle.mcode.specs.Walk.{walk}
+use Rattle.depths.specs.Queue.{Queue, Entered}
+use Rattle.depths.proofs.Theory.{entered-grows, drained}
+use Rattle.walk.proofs.Laws.{reals}
+use native.Mathlib.Omega.{arith}
+use borrow.Author.Rules.{rules}
+use Rattle.walk.proofs.drain.Given as goal
+
+abbrev pub invariant-loop-h : goal.invariant-loop-h
+invariant-loop-h l =
+    let A = walk l.image l.m in
+    Queue A l.map l.work l.h l.t × Entered A l.map A.entries × (length l.map ≡ length l.initial.map) × (length l.work ≡ length l.initial.work)
+
+abbrev pub decreases-loop-h : goal.decreases-loop-h
+decreases-loop-h l = length l.work - l.h

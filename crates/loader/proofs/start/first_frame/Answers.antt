@@ -1,0 +1,21 @@
+use lib.ListN.{length, set, length-set}
+use mathlib.Core.Path.{◌≡◌}
+use Prim.Native.Nat.{ℕ, ◌+◌}
+use native.Mathlib.Omega.{arith}
+use Rattle.mcode.specs.Step.{written}
+use borrow.Author.Rules.{rules}
+use Rattle.loader.proofs.start.first_frame.Goals as goal
+
+pub bounds-store-end-2 : goal.bounds-store-end-2
+bounds-store-end-2 c = simp length-set (omega arith)
+
+pub bounds-store-end-3 : goal.bounds-store-end-3
+bounds-store-end-3 c = simp length-set (omega arith)
+
+pub returns : goal.returns
+unfolding written
+returns c =
+    let z = c.args.end in
+    let p : z + 8 + 1 ≡ z + 9 = omega arith in
+    let q : z + 9 + 1 ≡ z + 10 = omega arith in
+    rw (p, q)

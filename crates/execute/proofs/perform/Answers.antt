@@ -51,7 +51,7 @@ pub row14-requires : goal.row14-requires
 row14-requires c = record { op_value = c.in-14.is; controls = (λ n. (c.requires.asks.controls, c.requires.asks.mapped, c.requires.asks.listed n)); anchored = c.requires.asks.anchored }
 
 pub row15-requires : goal.row15-requires
-row15-requires c = record { op_value = (omega (arith, past _ 15 c.in_default.rest)); controls = c.requires.asks.controls; anchored = c.requires.asks.anchored }
+row15-requires c = record { op_value = (omega (arith, past _ 15 c.in_default.in_default-own.rest)); controls = c.requires.asks.controls; anchored = c.requires.asks.anchored }
 
 pub returns-in-0 : goal.returns-in-0
 returns-in-0 c = ((λ lent h. c.row0.ensures.0 lent _ _ _ ∙ in_row lent _ _ _ _ _ _ 0 c.in-0.is refl), takes_none c.args.op 0 c.args.r c.args.stack.now c.row0.result.stop c.args.taken.now c.in-0.is refl, anchored-on c.requires.asks.anchored c.row0.ensures.1)
@@ -99,4 +99,4 @@ pub returns-in-14 : goal.returns-in-14
 returns-in-14 c = ((λ lent h. c.row14.ensures.0 lent _ h _), takes_none c.args.op 14 c.args.r c.args.stack.now c.row14.result.stop c.args.taken.now c.in-14.is refl, c.row14.ensures.1)
 
 pub returns-in_default : goal.returns-in_default
-returns-in_default c = ((λ lent h. c.row15.ensures.0 lent _ _ h _ _ ∙ in_row lent _ _ _ _ _ _ 15 ((omega (arith, past _ 15 c.in_default.rest))) refl), takes_none c.args.op 15 c.args.r c.args.stack.now c.row15.result.stop c.args.taken.now ((omega (arith, past _ 15 c.in_default.rest))) refl, c.row15.ensures.1)
+returns-in_default c = ((λ lent h. c.row15.ensures.0 lent _ _ h _ _ ∙ in_row lent _ _ _ _ _ _ 15 ((omega (arith, past _ 15 c.in_default.in_default-own.rest))) refl), takes_none c.args.op 15 c.args.r c.args.stack.now c.row15.result.stop c.args.taken.now ((omega (arith, past _ 15 c.in_default.in_default-own.rest))) refl, c.row15.ensures.1)

@@ -9,7 +9,9 @@ pub turn-s-requires : goal.turn-s-requires
 turn-s-requires c =  let a = asks-step c.requires.prepared _ c.requires.machine_value _ c.core_of-r.ensures.0 c.core_of-r.ensures.1 in record { asks = a.0; bound = (a.1, c.requires.inputs_len.0, c.requires.inputs_len.1) }
 
 pub settle-t-requires : goal.settle-t-requires
-settle-t-requires c = asks-settle _ _ c.requires.prepared c.requires.machine_value c.requires.inputs_len.1 (after-step c.requires.prepared _ c.requires.machine_value _ c.core_of-r.ensures.0 c.core_of-r.ensures.1 _ _ _ c.turn-s.ensures.0) c.turn-s.ensures.2
+settle-t-requires c =
+    let q = asks-settle _ _ c.requires.prepared c.requires.machine_value c.requires.inputs_len.1 (after-step c.requires.prepared _ c.requires.machine_value _ c.core_of-r.ensures.0 c.core_of-r.ensures.1 _ _ _ c.turn-s.ensures.0) c.turn-s.ensures.2 in
+    record { mapped = q.0; framed = q.1.0; anchored = q.1.1.0; stop_bound = q.1.1.1 }
 
 pub machine_of-after-requires : goal.machine_of-after-requires
 machine_of-after-requires c =

@@ -1,0 +1,18 @@
+use mathlib.Core.Path.{◌≡◌, refl, ap, ◌∙◌}
+use Prim.Native.Nat.{ℕ, ◌+◌, ◌-◌, ◌≤◌}
+use lib.ListN.{length}
+use Rattle.mcode.specs.Word.{tabulate}
+use Rattle.mcode.specs.Image.{begin_of}
+use Rattle.mcode.specs.Archive.{content_of, modules_form}
+use Rattle.mcode.proofs.Lies.{lies, begin-next}
+use Rattle.archive.proofs.Modules.{front-short, sum-next}
+use native.Mathlib.Omega.{arith}
+use borrow.Author.Rules.{rules}
+use Rattle.archive.proofs.form.modules_length.Given as goal
+
+abbrev pub invariant-loop-k : goal.invariant-loop-k
+invariant-loop-k l =
+    (l.k ≤ l.n) × (l.n ≡ l.program.count) × (l.begin ≡ begin_of l.program.modules l.k) × (l.sum ≡ length (modules_form (tabulate l.k (content_of l.image l.program))))
+
+abbrev pub decreases-loop-k : goal.decreases-loop-k
+decreases-loop-k l = l.n - l.k

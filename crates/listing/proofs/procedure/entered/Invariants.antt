@@ -1,0 +1,16 @@
+use mathlib.Core.Path.{◌≡◌, refl, sym, ◌∙◌, ap}
+use Prim.Native.Nat.{◌-◌, ◌<◌, ◌≤◌}
+use Rattle.mcode.specs.Image.{proc_count}
+use Rattle.listing.specs.declared.procedure.Procedure.{Procedure}
+use Rattle.listing.specs.Shape.{procedure_of}
+use Rattle.listing.specs.First.{first_from, enters}
+use Rattle.listing.proofs.Least.{first-here, first-later, first-none}
+use borrow.Author.Tests.{ne_eqb, eq-eqb}
+use borrow.Author.Rules.{rules}
+use Rattle.listing.proofs.procedure.entered.Given as goal
+
+abbrev pub invariant-loop-i : goal.invariant-loop-i
+invariant-loop-i l = (l.end ≡ proc_count l.m) × (l.end < 65536) × (first_from (enters l.image l.m l.p) (l.end - l.i) l.i ≡ first_from (enters l.image l.m l.p) (proc_count l.m - l.from) l.from) × (l.from ≤ l.i)
+
+abbrev pub decreases-loop-i : goal.decreases-loop-i
+decreases-loop-i l = l.end - l.i

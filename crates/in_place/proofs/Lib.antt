@@ -1,4 +1,2 @@
-pub mod Again
-pub mod Facts
 pub mod Onward
 pub mod Whole

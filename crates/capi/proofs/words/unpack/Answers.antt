@@ -1,0 +1,5 @@
+use borrow.Author.Rules.{rules}
+use Rattle.capi.proofs.words.unpack.Goals as goal
+
+pub returns : goal.returns
+returns c = rw (c.module_number-unit.ensures, c.stack_of-stack.ensures, c.wide-depth.ensures)

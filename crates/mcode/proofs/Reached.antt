@@ -19,7 +19,7 @@ use Rattle.mcode.specs.Word.{pick, and, or}
 use Rattle.mcode.specs.Opcode.{lengths, takens, lefts}
 use Rattle.mcode.specs.Image.{parse, module_of, code_byte, proc_count, entry_of, params_of, results_of}
 use Rattle.mcode.specs.Layout.{Sound, Told}
-use Rattle.mcode.specs.Depths.{Analysis, mark, Marked, Follows, Fits, Fewest, unmarked, mark_of, depth_of, is_mark, leaves, permits, target, jumps, calls, calls_in, names_module, onward, depth_flow, carry, flow_at, depths}
+use Rattle.mcode.specs.Depths.{Analysis, mark, Marked, Follows, Fits, Fewest, unmarked, depth_of, is_mark, leaves, permits, target, jumps, calls, calls_in, names_module, onward, depth_flow, carry, flow_at, depths}
 use Rattle.mcode.specs.Walk.{seen, ways, ways_at, legible, named, stays_in, cause_at, whole_at, within, walk, Reached, Whole}
 use Rattle.mcode.specs.Demands.{MarksReached}
 use Rattle.mcode.proofs.Tests.{and_both, both-and, or-either, inside}

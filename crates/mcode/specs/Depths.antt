@@ -1,6 +1,6 @@
 -- Depths: what a fitting assignment of marks is, for any analysis of one module's code; then the paper's rules as one analysis.
 -- A mark is a number, and only this file knows what it encodes: a depth, a result count and the saved depths, or that there is none.
-use Rattle.std.specs.Prelude.{ℕ, zero, suc, ◌+◌, ◌-◌, ◌*◌, ◌/◌, ◌%◌, ◌≤◌, ◌<◌, ◌≡◌, Bool, true, false, List, ◌++◌, length, get_or, take, drop, replicate, ltb, leb, eqb}
+use Rattle.std.specs.Prelude.{ℕ, zero, suc, ◌+◌, ◌-◌, ◌*◌, ◌/◌, ◌%◌, ◌≤◌, ◌<◌, ◌≡◌, Bool, true, false, List, length, get_or, take, drop, replicate, ltb, leb, eqb}
 use Rattle.mcode.specs.Word.{pick, and, or, all_below, wrap, word_of}
 use Rattle.mcode.specs.Opcode.{lengths, takens, lefts}
 use Rattle.mcode.specs.Image.{module_of, code_byte, proc_count, entry_of, params_of, results_of, in_code}

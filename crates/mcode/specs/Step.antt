@@ -1,11 +1,10 @@
 -- One step: a line is taken, or the instruction at the machine's position is decoded to an action and the action is performed; a trap of
 -- either leads to the trap process.
-use Rattle.std.specs.Prelude.{ℕ, zero, suc, ◌+◌, ◌-◌, ◌*◌, ◌/◌, ◌%◌, ◌^◌, Bool, true, false, not, List, [], ◌∷◌, length, get_or, set, replicate, ltb, leb, eqb}
+use Rattle.std.specs.Prelude.{ℕ, zero, suc, ◌+◌, ◌-◌, ◌*◌, ◌/◌, ◌^◌, Bool, not, List, [], ◌∷◌, length, get_or, set, replicate, ltb, leb, eqb}
 use Rattle.mcode.specs.Word.{pick, and, or, wrap, bit, byte_of, with_byte, one_of, two_of, three_of, paired, high_of, low_of, double_of}
 use Rattle.mcode.specs.Image.{module_of, bases_of, code_byte, entry_of, margin}
 use Rattle.mcode.specs.Depths.{front_of, mark_at, marked}
-use Rattle.mcode.specs.Machine.{State, state, Live, live, OutcomeOf, Outcome, go, halt, leaving, handled, stop_number, address, position, machine, at, framed, depth, top, second, third, fourth, on, take1, take2, take3, put, replace1, replace2, replace3, put_pair, pair_for1, pair_for4}
-use Rattle.mcode.specs.declared.Address.{Address}
+use Rattle.mcode.specs.Machine.{State, state, Live, OutcomeOf, Outcome, go, halt, leaving, handled, stop_number, address, position, machine, at, framed, depth, top, second, third, fourth, on, take1, take2, take3, put, replace1, replace2, replace3, put_pair, pair_for1, pair_for4}
 use Rattle.mcode.specs.declared.Position.{Position}
 use Rattle.mcode.specs.declared.Registers.{Registers}
 use Rattle.mcode.specs.declared.Machine.{Machine}
@@ -14,7 +13,7 @@ use Rattle.mcode.specs.declared.Stop.{Stop}
 use Rattle.mcode.specs.declared.Stop.TheVariants.{Ended, BadAddress, StackLimit, ReturnMark, BadProcess, BadChannel, Program as OfProgram}
 use Rattle.mcode.specs.declared.Value.{Value}
 use Rattle.mcode.specs.declared.Value.TheVariants.{Is, Fault}
-use Rattle.mcode.specs.Decode.{Decoded, decode_of, Action, Put, AddTop, Jump, JumpZero, OrJump, AndJump, Load, LoadTop, LoadIndexed, Store, StoreBelow, StoreIndexed, LoadByte, StoreByte, One, Two, Three, Copy, Nothing, Read, Write, Trap, Enter, Follow, Call, CallLinked, CallExternal, Return, Transfer, PutPair, LoadPair, LoadPairTop, StorePair, StorePairBelow, Double, Save, Fetch}
+use Rattle.mcode.specs.Decode.{decode_of, Action, Put, AddTop, Jump, JumpZero, OrJump, AndJump, Load, LoadTop, LoadIndexed, Store, StoreBelow, StoreIndexed, LoadByte, StoreByte, One, Two, Three, Copy, Nothing, Read, Write, Trap, Enter, Follow, Call, CallLinked, CallExternal, Return, Transfer, PutPair, LoadPair, LoadPairTop, StorePair, StorePairBelow, Double, Save, Fetch}
 
 -- what a run is lent and only reads
 pub record Lent : Type 0 where

@@ -1,5 +1,5 @@
 -- The two-word operations that are computed together and selected by their opcode: what is selected is what the definition says. Assumes nothing.
-use Rattle.std.proofs.Common.{◌≡◌, ℕ, zero, suc, ◌+◌, ◌-◌, ◌*◌, ◌%◌, ◌^◌, ◌<◌, ◌≤◌, Bool, true, false, eqb, ltb, leb, pos, refl, ap, ◌∙◌, subst, ⊎_elim, eq-or-lt_of_le, arith, ltb-false, ltb-true, le-ltb, lt-ltb, ne_eqb, eqb-true, le-leb}
+use Rattle.std.proofs.Common.{◌≡◌, ℕ, zero, suc, ◌+◌, ◌-◌, ◌*◌, ◌%◌, ◌<◌, ◌≤◌, Bool, true, false, eqb, ltb, leb, pos, refl, ap, ◌∙◌, subst, ⊎_elim, eq-or-lt_of_le, arith, ltb-false, ltb-true, le-ltb, lt-ltb, ne_eqb, eqb-true, le-leb}
 use borrow.Author.Tests.{lt-leb, eqb-false}
 use lib.Bits.{bit_and, bit_or, bit_xor}
 use Rattle.mcode.specs.Word.{pick, truth, wrap, settle_unsigned, two_of}

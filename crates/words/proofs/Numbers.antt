@@ -1,5 +1,5 @@
 -- Signed numbers of 16 bits: what a local holds of them, their sums, differences and products in 32 bits, and their quotients and opposites in 16. Assumes nothing.
-use Rattle.std.proofs.Common.{◌≡◌, ℕ, zero, suc, ◌+◌, ◌-◌, ◌*◌, ◌/◌, ◌<◌, ◌≤◌, Bool, true, false, T, ltb, ℤ, pos, negsuc, ◌+ℤ◌, ◌-ℤ◌, ◌*ℤ◌, neg_ℤ, nat_abs, sym, refl, ap, ◌∙◌, mul-le-mul, zero-add, div-le_self, div-one, arith, w16, w32, Fits, SFits, to_z, of_z, ltb-false, ltb-true, le-ltb, lt-ltb, le-leb}
+use Rattle.std.proofs.Common.{◌≡◌, ℕ, zero, suc, ◌-◌, ◌*◌, ◌/◌, ◌<◌, ◌≤◌, Bool, true, false, T, ltb, ℤ, pos, negsuc, ◌+ℤ◌, ◌-ℤ◌, ◌*ℤ◌, neg_ℤ, nat_abs, sym, refl, ap, ◌∙◌, mul-le-mul, zero-add, div-le_self, div-one, arith, w16, w32, Fits, SFits, to_z, of_z, ltb-false, ltb-true, le-ltb, lt-ltb, le-leb}
 use native.Mathlib.Nat.{div-lt_self}
 use lib.IntN.{pos-ne-negsuc, +ℤ_idl, sub_ℕ}
 use lib.Signed.{mag, quot_z, lt_z, le_z, non_neg}

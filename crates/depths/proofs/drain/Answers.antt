@@ -1,9 +1,8 @@
 -- The search until the queue is empty, where the map is the fewest that fits; the loop keeps the queue, the entries and the next turn.
-use Rattle.std.proofs.Common.{◌≡◌, ℕ, ◌+◌, ◌-◌, length, refl, ◌∙◌, subst, arith, rules}
-use Rattle.mcode.specs.Depths.{Analysis}
+use Rattle.std.proofs.Common.{◌≡◌, ℕ, ◌+◌, refl, ◌∙◌, subst, arith}
 use Rattle.depths.specs.Lent.{depths_of}
-use Rattle.depths.specs.Queue.{Queue, Turning}
-use Rattle.depths.proofs.Theory.{Going, in-queue, first-going, more-going, drained}
+use Rattle.depths.specs.Queue.{Queue}
+use Rattle.depths.proofs.Theory.{in-queue, first-going, more-going, drained}
 use Rattle.depths.proofs.Marks.{real-entry, turning}
 use Rattle.depths.proofs.drain.Goals as goal
 
@@ -38,7 +37,7 @@ returns-then-t-h c =
     drained A l.map l.work t (subst (λ (h : ℕ). Queue A l.map l.work h t) e g.0) g.1
 
 pub expand-turn-requires : goal.expand-turn-requires
-expand-turn-requires c = 
+expand-turn-requires c =
     let g = rw c.in-Next.is at c.loop-turn.invariant.0 in
     let lt = c.if-t-h.false in
     record { ready = c.requires.ready; h_lt_t = (lt, (g.2 lt).0, (g.2 lt).1, rw c.in-Next.is at c.loop-turn.invariant.3); queue = g.0 }

@@ -1,9 +1,7 @@
-use Rattle.std.proofs.Common.{◌≡◌, ℕ, ◌+◌, ◌-◌, length, refl, ◌∙◌, subst, arith, rules}
-use Rattle.mcode.specs.Depths.{Analysis}
+use Rattle.std.proofs.Common.{◌≡◌, ◌-◌, length}
 use Rattle.depths.specs.Lent.{depths_of}
-use Rattle.depths.specs.Queue.{Queue, Turning}
-use Rattle.depths.proofs.Theory.{Going, in-queue, first-going, more-going, drained}
-use Rattle.depths.proofs.Marks.{real-entry, turning}
+use Rattle.depths.specs.Queue.{Turning}
+use Rattle.depths.proofs.Theory.{Going}
 use Rattle.depths.proofs.drain.Given as goal
 
 abbrev pub invariant-loop-turn : goal.invariant-loop-turn

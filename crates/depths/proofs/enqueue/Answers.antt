@@ -1,5 +1,5 @@
 -- A visit marks and queues an unmarked position, and clashes with another mark: a free place in the map leaves one in the queue.
-use Rattle.std.proofs.Common.{refl, ◌∙◌, inl, inr, arith, rules}
+use Rattle.std.proofs.Common.{refl, ◌∙◌, inl, inr, arith}
 use Rattle.mcode.specs.Depths.{unmarked}
 use Rattle.depths.proofs.Lists.{get_d_any, free-pos}
 use Rattle.depths.proofs.enqueue.Goals as goal

@@ -1,10 +1,8 @@
 -- The entries are visited with their parameter counts; the loop keeps the queue and the entries that are marked.
-use Rattle.std.proofs.Common.{◌≡◌, ℕ, ◌-◌, ◌<◌, ◌≤◌, true, length, refl, ap, ◌∙◌, arith, rules, below_none}
+use Rattle.std.proofs.Common.{length, refl, ap, ◌∙◌, arith, below_none}
 use lib.ListN.{length-replicate}
-use Rattle.mcode.specs.Depths.{unmarked as none, is_mark, Analysis}
 use Rattle.depths.specs.Lent.{depths_of}
-use Rattle.depths.specs.Queue.{AllMarks, Queue, Entered}
-use Rattle.depths.proofs.Theory.{Real, blank-map, blank-queue, enter-clash, enter-tail}
+use Rattle.depths.proofs.Theory.{blank-map, blank-queue, enter-clash, enter-tail}
 use Rattle.depths.proofs.Marks.{real-flow, packed-entry, real-entry, visited-marks}
 use Rattle.depths.proofs.enter.Goals as goal
 
@@ -15,7 +13,7 @@ pub entry_of-q-requires : goal.entry_of-q-requires
 entry_of-q-requires c = (omega (arith, c.proc_count-n.ensures.1), c.requires.sound.near)
 
 pub entry_mark-d-requires : goal.entry_mark-d-requires
-entry_mark-d-requires c = 
+entry_mark-d-requires c =
     let S = c.requires.sound in
     let l = rw c.proc_count-n.ensures.0 at c.loop-i-test.true in
     record { i_bound = (omega (arith, c.proc_count-n.ensures.1), S.near); i_bound_2 = (S.params _ l, S.results _ l) }

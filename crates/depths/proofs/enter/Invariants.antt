@@ -1,10 +1,6 @@
-use Rattle.std.proofs.Common.{◌≡◌, ℕ, ◌-◌, ◌<◌, ◌≤◌, true, length, refl, ap, ◌∙◌, arith, rules, below_none}
-use lib.ListN.{length-replicate}
-use Rattle.mcode.specs.Depths.{unmarked as none, is_mark, Analysis}
+use Rattle.std.proofs.Common.{◌≡◌, ◌-◌, ◌≤◌, length}
 use Rattle.depths.specs.Lent.{depths_of}
 use Rattle.depths.specs.Queue.{AllMarks, Queue, Entered}
-use Rattle.depths.proofs.Theory.{Real, blank-map, blank-queue, enter-clash, enter-tail}
-use Rattle.depths.proofs.Marks.{real-flow, packed-entry, real-entry, visited-marks}
 use Rattle.depths.proofs.enter.Given as goal
 
 abbrev pub invariant-loop-i : goal.invariant-loop-i

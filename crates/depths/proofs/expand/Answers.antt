@@ -1,5 +1,5 @@
 -- One turn of the search: the position at h leaves the queue with its successors marked and the next turn is known, or no assignment fits.
-use Rattle.std.proofs.Common.{◌≡◌, ℕ, ◌+◌, ◌<◌, ◌≤◌, true, List, length, get_or, sym, ◌∙◌, subst, arith, rules}
+use Rattle.std.proofs.Common.{◌≡◌, ℕ, ◌+◌, ◌<◌, ◌≤◌, true, List, length, get_or, sym, ◌∙◌, subst, arith}
 use Rattle.mcode.specs.declared.Flow.{Flow}
 use Rattle.mcode.specs.declared.Flow.TheVariants.{Fault, Ends, To, Fork}
 use Rattle.depths.specs.declared.Visit.{Visit}
@@ -95,11 +95,17 @@ module _ (w : Here) where
     fork = turn-fork A (real_of w) m₀ w₀ h₀ t₀ w.queue w.lt q d r g (flow-is w (Fork q d r g) e)
 
 pub flow_at-f-requires : goal.flow_at-f-requires
-flow_at-f-requires c = 
+flow_at-f-requires c =
     let l = (in-queue ((depths_of c.args.image.now c.args.count c.args.procs.now c.args.tables.now c.args.m)) c.args.map.now c.args.work.now c.args.h c.args.t c.requires.queue c.requires.h_lt_t.0).1 in
-    record { p_lt_length = (omega (arith, l, c.requires.h_lt_t.1, c.requires.queue.sized), (let e = c.requires.h_lt_t.2 in
-    subst (λ (k : ℕ). is_mark k ≡ true) e
-    (c.requires.h_lt_t.3 c.args.p (subst (λ (p : ℕ). get_or c.args.map.now p none ≡ none → ⊥) c.requires.h_lt_t.1 (c.requires.queue.marked c.args.h c.requires.h_lt_t.0))))); ready = c.requires.ready }
+    record {
+      p_lt_length = (
+        omega (arith, l, c.requires.h_lt_t.1, c.requires.queue.sized),
+        (let e = c.requires.h_lt_t.2 in
+            subst (λ (k : ℕ). is_mark k ≡ true) e
+            (c.requires.h_lt_t.3 c.args.p (subst (λ (p : ℕ). get_or c.args.map.now p none ≡ none → ⊥) c.requires.h_lt_t.1 (c.requires.queue.marked c.args.h c.requires.h_lt_t.0)))),
+      );
+      ready = c.requires.ready;
+    }
 
 pub head-requires : goal.head-requires
 head-requires c =
@@ -113,8 +119,7 @@ head-requires-then-h-t c =
 
 pub returns-then-h-t : goal.returns-then-h-t
 returns-then-h-t c =
-    let z : Here = record { image = c.args.image.now; count = c.args.count; procs = c.args.procs.now; tables = c.args.tables.now; m = c.args.m; map = c.args.map.now; work = c.args.work.now; p = c.args.p; d = c.args.d; h = c.args.h; t = c.args.t; flow = c.flow_at-f.result; sound = c.requires.ready.sound; placed = c.requires.ready.placed; lt = c.requires.h_lt_t.0; at = c.requires.h_lt_t.1; marked = c.requires.h_lt_t.2; all = c.requires.h_lt_t.3; queue = c.requires.queue; found = c.flow_at-f.ensures } in
-    (
+    let z : Here = record { image = c.args.image.now; count = c.args.count; procs = c.args.procs.now; tables = c.args.tables.now; m = c.args.m; map = c.args.map.now; work = c.args.work.now; p = c.args.p; d = c.args.d; h = c.args.h; t = c.args.t; flow = c.flow_at-f.result; sound = c.requires.ready.sound; placed = c.requires.ready.placed; lt = c.requires.h_lt_t.0; at = c.requires.h_lt_t.1; marked = c.requires.h_lt_t.2; all = c.requires.h_lt_t.3; queue = c.requires.queue; found = c.flow_at-f.ensures } in (
       headed ((depths_of c.args.image.now c.args.count c.args.procs.now c.args.tables.now c.args.m)) _ c.args.map.now c.enqueue-v.new.map c.enqueue-v.new.work c.in-Tail.s
           (to z _ _ c.in-To.is (Tail c.in-Tail.s) c.enqueue-v.new.map c.enqueue-v.new.work (rw c.in-Tail.is at c.enqueue-v.ensures))
           c.head-then-h-t.result c.head-then-h-t.ensures,
@@ -175,8 +180,7 @@ returns-in-Clash-v c =
 
 pub returns-in-Clash-w : goal.returns-in-Clash-w
 returns-in-Clash-w c =
-    let z : Here = record { image = c.args.image.now; count = c.args.count; procs = c.args.procs.now; tables = c.args.tables.now; m = c.args.m; map = c.args.map.now; work = c.args.work.now; p = c.args.p; d = c.args.d; h = c.args.h; t = c.args.t; flow = c.flow_at-f.result; sound = c.requires.ready.sound; placed = c.requires.ready.placed; lt = c.requires.h_lt_t.0; at = c.requires.h_lt_t.1; marked = c.requires.h_lt_t.2; all = c.requires.h_lt_t.3; queue = c.requires.queue; found = c.flow_at-f.ensures } in
-    (
+    let z : Here = record { image = c.args.image.now; count = c.args.count; procs = c.args.procs.now; tables = c.args.tables.now; m = c.args.m; map = c.args.map.now; work = c.args.work.now; p = c.args.p; d = c.args.d; h = c.args.h; t = c.args.t; flow = c.flow_at-f.result; sound = c.requires.ready.sound; placed = c.requires.ready.placed; lt = c.requires.h_lt_t.0; at = c.requires.h_lt_t.1; marked = c.requires.h_lt_t.2; all = c.requires.h_lt_t.3; queue = c.requires.queue; found = c.flow_at-f.ensures } in (
       fork z _ _ _ _ c.in-Fork.is c.in-Tail-v.s c.enqueue-v-in-Fork.new.map c.enqueue-v-in-Fork.new.work (rw c.in-Tail-v.is at c.enqueue-v-in-Fork.ensures)
           Clash c.enqueue-w.new.map c.enqueue-w.new.work (rw c.in-Clash-w.is at c.enqueue-w.ensures),
       tt,
@@ -184,8 +188,7 @@ returns-in-Clash-w c =
 
 pub returns-in-Tail-w : goal.returns-in-Tail-w
 returns-in-Tail-w c =
-    let z : Here = record { image = c.args.image.now; count = c.args.count; procs = c.args.procs.now; tables = c.args.tables.now; m = c.args.m; map = c.args.map.now; work = c.args.work.now; p = c.args.p; d = c.args.d; h = c.args.h; t = c.args.t; flow = c.flow_at-f.result; sound = c.requires.ready.sound; placed = c.requires.ready.placed; lt = c.requires.h_lt_t.0; at = c.requires.h_lt_t.1; marked = c.requires.h_lt_t.2; all = c.requires.h_lt_t.3; queue = c.requires.queue; found = c.flow_at-f.ensures } in
-    (
+    let z : Here = record { image = c.args.image.now; count = c.args.count; procs = c.args.procs.now; tables = c.args.tables.now; m = c.args.m; map = c.args.map.now; work = c.args.work.now; p = c.args.p; d = c.args.d; h = c.args.h; t = c.args.t; flow = c.flow_at-f.result; sound = c.requires.ready.sound; placed = c.requires.ready.placed; lt = c.requires.h_lt_t.0; at = c.requires.h_lt_t.1; marked = c.requires.h_lt_t.2; all = c.requires.h_lt_t.3; queue = c.requires.queue; found = c.flow_at-f.ensures } in (
       headed ((depths_of c.args.image.now c.args.count c.args.procs.now c.args.tables.now c.args.m)) _ c.args.map.now c.enqueue-w.new.map c.enqueue-w.new.work c.in-Tail-w.u
           (fork z _ _ _ _ c.in-Fork.is c.in-Tail-v.s c.enqueue-v-in-Fork.new.map c.enqueue-v-in-Fork.new.work (rw c.in-Tail-v.is at c.enqueue-v-in-Fork.ensures)
           (Tail c.in-Tail-w.u) c.enqueue-w.new.map c.enqueue-w.new.work (rw c.in-Tail-w.is at c.enqueue-w.ensures))

@@ -1,5 +1,5 @@
 -- The map is the fewest that fits, or none fits.
-use Rattle.std.proofs.Common.{ℕ, replicate, ap, ◌∙◌, rules}
+use Rattle.std.proofs.Common.{ℕ, replicate, ap, ◌∙◌}
 use Rattle.mcode.specs.Depths.{unmarked}
 use Rattle.depths.proofs.find.Goals as goal
 

@@ -1,9 +1,7 @@
 -- The code length is 1 to 32,767.
 use mathlib.Core.Path.{sym, ◌∙◌}
-use Prim.Native.Nat.{◌-◌}
 use Rattle.mcode.specs.Image.{length_at}
 use borrow.Author.Tests.{le-leb, lt-leb}
-use borrow.Author.Rules.{rules}
 use Rattle.image.proofs.code_length.Goals as goal
 
 pub returns-then-v-lt1 : goal.returns-then-v-lt1

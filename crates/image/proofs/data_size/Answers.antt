@@ -1,8 +1,6 @@
 -- The data size is read only where bit 0 stands.
-use Prim.Native.Nat.{◌-◌}
 use Rattle.mcode.specs.Image.{data_at}
 use borrow.Author.Tests.{ne_eqb, eq-eqb}
-use borrow.Author.Rules.{rules}
 use Rattle.image.proofs.data_size.Goals as goal
 
 pub returns-then-bits-eq1 : goal.returns-then-bits-eq1

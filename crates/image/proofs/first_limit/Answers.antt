@@ -1,5 +1,4 @@
 -- Procedure 0 of module 0 has no parameters.
-use Prim.Native.Nat.{◌-◌}
 use borrow.Author.Tests.{ne_eqb, eq-eqb}
 use Rattle.image.proofs.first_limit.Goals as goal
 

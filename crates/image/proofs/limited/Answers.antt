@@ -1,9 +1,7 @@
 -- A byte up to its limit, or the refusal is 6.
 use mathlib.Core.Path.{sym, ◌∙◌}
-use Prim.Native.Nat.{◌-◌}
 use Rattle.mcode.specs.Image.{limited_at}
 use borrow.Author.Tests.{le-leb, lt-leb}
-use borrow.Author.Rules.{rules}
 use Rattle.image.proofs.limited.Goals as goal
 
 pub returns-then-v-limit : goal.returns-then-v-limit

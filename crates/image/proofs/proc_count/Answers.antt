@@ -1,9 +1,7 @@
 -- The procedure count is read only where bit 1 stands, and is not 0.
 use mathlib.Core.Path.{sym, ◌∙◌}
-use Prim.Native.Nat.{◌-◌}
 use Rattle.mcode.specs.Image.{count_at}
 use borrow.Author.Tests.{ne_eqb, le-leb, lt-leb, eq-eqb}
-use borrow.Author.Rules.{rules}
 use Rattle.image.proofs.proc_count.Goals as goal
 
 pub returns-then-v-ge1 : goal.returns-then-v-ge1

@@ -1,9 +1,7 @@
 -- A procedure record: entry, parameters and results, each judged as it is read.
 use mathlib.Core.Path.{sym, ◌∙◌}
-use Prim.Native.Nat.{◌-◌}
 use Rattle.mcode.specs.Image.{record_at}
 use borrow.Author.Tests.{lt-ltb, le-ltb}
-use borrow.Author.Rules.{rules}
 use Rattle.image.proofs.proc_record.Goals as goal
 
 pub returns-then-length-entry : goal.returns-then-length-entry

@@ -1,11 +1,8 @@
 -- The procedure records; the loop keeps that those left give the answer of all.
 use mathlib.Core.Path.{◌≡◌, refl, sym, ◌∙◌}
-use Prim.Native.Nat.{◌-◌}
-use lib.ListN.{length}
 use Rattle.mcode.specs.Image.{records_at}
 use Rattle.image.proofs.Laws.{more-records, unread-record}
 use native.Mathlib.Omega.{arith}
-use borrow.Author.Rules.{rules}
 use Rattle.image.proofs.proc_records.Goals as goal
 
 pub loop-left-init : goal.loop-left-init

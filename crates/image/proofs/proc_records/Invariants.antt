@@ -1,10 +1,5 @@
-use mathlib.Core.Path.{◌≡◌, refl, sym, ◌∙◌}
-use Prim.Native.Nat.{◌-◌}
-use lib.ListN.{length}
+use mathlib.Core.Path.{◌≡◌}
 use Rattle.mcode.specs.Image.{records_at}
-use Rattle.image.proofs.Laws.{more-records, unread-record}
-use native.Mathlib.Omega.{arith}
-use borrow.Author.Rules.{rules}
 use Rattle.image.proofs.proc_records.Given as goal
 
 abbrev pub invariant-loop-left : goal.invariant-loop-left

@@ -1,9 +1,7 @@
 -- The bit map byte is below 8, or the refusal is 5.
 use mathlib.Core.Path.{sym, ◌∙◌}
-use Prim.Native.Nat.{◌-◌}
 use Rattle.mcode.specs.Image.{bits_at}
 use borrow.Author.Tests.{lt-ltb, le-ltb}
-use borrow.Author.Rules.{rules}
 use Rattle.image.proofs.read_bits.Goals as goal
 
 pub returns-then-v-lt8 : goal.returns-then-v-lt8

@@ -1,8 +1,6 @@
 -- The code length, the records and the code, in this order.
 use mathlib.Core.Path.{sym, ap, ◌∙◌}
-use Prim.Native.Nat.{◌-◌}
 use Rattle.mcode.specs.Image.{body_at, records_at}
-use borrow.Author.Rules.{rules}
 use Rattle.image.proofs.read_body.Goals as goal
 
 pub returns-in-Refused : goal.returns-in-Refused

@@ -1,9 +1,7 @@
 -- A byte is there (3) and is what byte_at says.
-use Prim.Native.Nat.{◌-◌}
 use Rattle.mcode.specs.Image.{byte_at}
 use native.Mathlib.Omega.{arith}
 use borrow.Author.Tests.{lt-ltb, le-ltb}
-use borrow.Author.Rules.{rules}
 use Rattle.image.proofs.read_byte.Goals as goal
 
 pub overflow_cast-result : goal.overflow_cast-result

@@ -1,10 +1,8 @@
 -- The answer is parse, for every byte string.
-use Prim.Native.Nat.{◌-◌}
 use Rattle.mcode.specs.Word.{byte}
 use Rattle.mcode.specs.Image.{most_modules, parse}
 use native.Mathlib.Omega.{arith}
 use borrow.Author.Tests.{ne_eqb, lt-ltb, le-ltb, eq-eqb}
-use borrow.Author.Rules.{rules}
 use Rattle.image.proofs.read_image.Goals as goal
 
 pub returns-then-s-eq0 : goal.returns-then-s-eq0

@@ -1,8 +1,6 @@
 -- The parts of a module, in the paper's order.
 use mathlib.Core.Path.{sym, ◌∙◌}
-use Prim.Native.Nat.{◌-◌}
 use Rattle.mcode.specs.Image.{module_at}
-use borrow.Author.Rules.{rules}
 use Rattle.image.proofs.read_module.Goals as goal
 
 pub returns-in-Refused : goal.returns-in-Refused

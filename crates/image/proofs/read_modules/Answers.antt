@@ -1,11 +1,7 @@
 -- The modules; the loop keeps that those left give the answer of all, and bounds the sum of the bases.
-use mathlib.Core.Path.{◌≡◌, sym, ◌∙◌}
-use Prim.Native.Nat.{◌+◌, ◌-◌, ◌*◌, ◌≤◌}
-use lib.ListN.{replicate}
-use Rattle.mcode.specs.Image.{first_module, most_modules, modules_from, no_module}
+use mathlib.Core.Path.{sym, ◌∙◌}
 use Rattle.image.proofs.Laws.{more-modules, unread-module, last-module, bytes_after, first-module}
 use native.Mathlib.Omega.{arith}
-use borrow.Author.Rules.{rules}
 use Rattle.image.proofs.read_modules.Goals as goal
 
 pub loop-i-init : goal.loop-i-init

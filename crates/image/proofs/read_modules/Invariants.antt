@@ -1,10 +1,7 @@
-use mathlib.Core.Path.{◌≡◌, sym, ◌∙◌}
+use mathlib.Core.Path.{◌≡◌}
 use Prim.Native.Nat.{◌+◌, ◌-◌, ◌*◌, ◌≤◌}
 use lib.ListN.{replicate}
 use Rattle.mcode.specs.Image.{first_module, most_modules, modules_from, no_module}
-use Rattle.image.proofs.Laws.{more-modules, unread-module, last-module, bytes_after, first-module}
-use native.Mathlib.Omega.{arith}
-use borrow.Author.Rules.{rules}
 use Rattle.image.proofs.read_modules.Given as goal
 
 abbrev pub invariant-loop-i : goal.invariant-loop-i

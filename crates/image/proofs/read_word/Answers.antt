@@ -1,10 +1,9 @@
 -- Both bytes of a word are there (3), and their sum fits 16 bits.
-use Prim.Native.Nat.{◌+◌, ◌-◌}
+use Prim.Native.Nat.{◌+◌}
 use lib.ListN.{length}
 use Rattle.mcode.specs.Image.{word_at}
 use native.Mathlib.Omega.{arith}
 use borrow.Author.Tests.{lt-ltb, le-ltb}
-use borrow.Author.Rules.{rules}
 use Rattle.image.proofs.read_word.Goals as goal
 
 pub returns-then-s-at : goal.returns-then-s-at

@@ -1,8 +1,6 @@
 -- A refusal carries the empty program.
 use mathlib.Core.Path.{refl}
-use Prim.Native.Nat.{◌-◌}
 use Rattle.mcode.specs.Image.{refused_by}
-use borrow.Author.Rules.{rules}
 use Rattle.image.proofs.refused.Goals as goal
 
 pub returns : goal.returns

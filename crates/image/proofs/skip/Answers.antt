@@ -1,10 +1,9 @@
 -- The bytes that are skipped lie in the image (3).
-use Prim.Native.Nat.{◌+◌, ◌-◌}
+use Prim.Native.Nat.{◌+◌}
 use lib.ListN.{length}
 use Rattle.mcode.specs.Image.{skip_at}
 use native.Mathlib.Omega.{arith}
 use borrow.Author.Tests.{le-leb, lt-leb}
-use borrow.Author.Rules.{rules}
 use Rattle.image.proofs.skip.Goals as goal
 
 pub returns-then-s-at : goal.returns-then-s-at

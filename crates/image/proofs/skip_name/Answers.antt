@@ -1,8 +1,6 @@
 -- The name is skipped only where bit 2 stands.
-use Prim.Native.Nat.{◌-◌}
 use Rattle.mcode.specs.Image.{name_at}
 use borrow.Author.Tests.{ne_eqb, eq-eqb}
-use borrow.Author.Rules.{rules}
 use Rattle.image.proofs.skip_name.Goals as goal
 
 pub returns-then-bits-eq1 : goal.returns-then-bits-eq1

@@ -2,12 +2,6 @@ use native.Mathlib.Omega.{arith}
 use Rattle.mcode.specs.Depths.{promised, saves, list_of}
 use Rattle.marks.proofs.Laws.{fetched-by}
 use Rattle.mcode.proofs.Marks.{fetch-permitted}
-use borrow.Author.Rules.{rules}
-use Rattle.marks.proofs.front_of.Reads as front-of-reads
-use Rattle.marks.proofs.list_of.Reads as list-of-reads
-use Rattle.marks.proofs.pack.Reads as pack-reads
-use Rattle.marks.proofs.promised_of.Reads as promised-of-reads
-use Rattle.marks.proofs.saves_of.Reads as saves-of-reads
 use Rattle.marks.proofs.fetch_mark.Goals as goal
 
 pub overflow_add-front_of : goal.overflow_add-front_of

@@ -1,8 +1,4 @@
-use mathlib.Core.Path.{◌≡◌}
-use Prim.Native.Nat.{◌-◌}
-use Rattle.mcode.specs.Depths.{is_list}
 use Rattle.marks.proofs.Laws.{list-begins, list-fails, list-goes-on, list-ends}
-use borrow.Author.Rules.{rules}
 use Rattle.marks.proofs.is_list.Goals as goal
 
 pub loop-i-init : goal.loop-i-init

@@ -1,8 +1,6 @@
 use mathlib.Core.Path.{◌≡◌}
 use Prim.Native.Nat.{◌-◌}
 use Rattle.mcode.specs.Depths.{is_list}
-use Rattle.marks.proofs.Laws.{list-begins, list-fails, list-goes-on, list-ends}
-use borrow.Author.Rules.{rules}
 use Rattle.marks.proofs.is_list.Given as goal
 
 abbrev pub invariant-loop-i : goal.invariant-loop-i

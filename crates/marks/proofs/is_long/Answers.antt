@@ -2,12 +2,6 @@ use mathlib.Core.Path.{sym, ap₂, ◌∙◌}
 use native.Mathlib.Omega.{arith}
 use Rattle.mcode.specs.Depths.{is_list}
 use Rattle.marks.proofs.Laws.{too-deep, too_many, too_long, by-list}
-use borrow.Author.Rules.{rules}
-use Rattle.marks.proofs.depth_of.Reads as depth-of-reads
-use Rattle.marks.proofs.is_list.Reads as is-list-reads
-use Rattle.marks.proofs.list_of.Reads as list-of-reads
-use Rattle.marks.proofs.promised_of.Reads as promised-of-reads
-use Rattle.marks.proofs.saves_of.Reads as saves-of-reads
 use Rattle.marks.proofs.is_long.Goals as goal
 
 pub returns-then-depth_of-gt16 : goal.returns-then-depth_of-gt16

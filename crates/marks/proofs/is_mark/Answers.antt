@@ -1,8 +1,5 @@
 use mathlib.Core.Path.{sym}
 use Rattle.marks.proofs.Laws.{by-depth}
-use borrow.Author.Rules.{rules}
-use Rattle.marks.proofs.depth_of.Reads as depth-of-reads
-use Rattle.marks.proofs.is_long.Reads as is-long-reads
 use Rattle.marks.proofs.is_mark.Goals as goal
 
 pub returns-then-k-lt160 : goal.returns-then-k-lt160

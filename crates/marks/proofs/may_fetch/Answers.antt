@@ -1,10 +1,6 @@
 use mathlib.Core.Path.{sym, ◌∙◌}
 use native.Mathlib.Omega.{arith}
 use Rattle.marks.proofs.Laws.{fetches-front, fetches-none, fetches-not}
-use borrow.Author.Rules.{rules}
-use Rattle.marks.proofs.depth_of.Reads as depth-of-reads
-use Rattle.marks.proofs.front_of.Reads as front-of-reads
-use Rattle.marks.proofs.saves_of.Reads as saves-of-reads
 use Rattle.marks.proofs.may_fetch.Goals as goal
 
 pub returns-then-saves_of-ge1 : goal.returns-then-saves_of-ge1

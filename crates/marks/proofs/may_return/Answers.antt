@@ -1,9 +1,5 @@
 use mathlib.Core.Path.{sym, ◌∙◌}
 use Rattle.marks.proofs.Laws.{returns-with, returns-without}
-use borrow.Author.Rules.{rules}
-use Rattle.marks.proofs.depth_of.Reads as depth-of-reads
-use Rattle.marks.proofs.promised_of.Reads as promised-of-reads
-use Rattle.marks.proofs.saves_of.Reads as saves-of-reads
 use Rattle.marks.proofs.may_return.Goals as goal
 
 pub returns-then-depth_of-promised_of : goal.returns-then-depth_of-promised_of

@@ -1,7 +1,6 @@
 use native.Mathlib.Omega.{arith}
 use Rattle.mcode.specs.Depths.{mark_of}
 use Rattle.marks.proofs.Laws.{packed}
-use borrow.Author.Rules.{rules}
 use Rattle.marks.proofs.pack.Goals as goal
 
 pub returns : goal.returns

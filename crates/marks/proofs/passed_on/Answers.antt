@@ -1,7 +1,5 @@
 use native.Mathlib.Omega.{arith}
 use Rattle.mcode.specs.Depths.{depth_of, passed}
-use borrow.Author.Rules.{rules}
-use Rattle.marks.proofs.depth_of.Reads as depth-of-reads
 use Rattle.marks.proofs.passed_on.Goals as goal
 
 pub overflow_sub-result : goal.overflow_sub-result

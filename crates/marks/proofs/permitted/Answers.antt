@@ -1,10 +1,6 @@
 use mathlib.Core.Path.{refl}
 use borrow.Author.Tests.{ne_eqb}
 use Rattle.mcode.specs.Depths.{permits}
-use borrow.Author.Rules.{rules}
-use Rattle.marks.proofs.may_fetch.Reads as may-fetch-reads
-use Rattle.marks.proofs.may_return.Reads as may-return-reads
-use Rattle.marks.proofs.saves_of.Reads as saves-of-reads
 use Rattle.marks.proofs.permitted.Goals as goal
 
 pub returns-then-op-eq236 : goal.returns-then-op-eq236

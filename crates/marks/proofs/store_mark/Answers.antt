@@ -2,12 +2,6 @@ use native.Mathlib.Omega.{arith}
 use Rattle.mcode.specs.Depths.{depth_of, promised}
 use Rattle.marks.proofs.Laws.{stored-by}
 use Rattle.mcode.proofs.Marks.{store-permitted, list-room}
-use borrow.Author.Rules.{rules}
-use Rattle.marks.proofs.depth_of.Reads as depth-of-reads
-use Rattle.marks.proofs.list_of.Reads as list-of-reads
-use Rattle.marks.proofs.pack.Reads as pack-reads
-use Rattle.marks.proofs.promised_of.Reads as promised-of-reads
-use Rattle.marks.proofs.saves_of.Reads as saves-of-reads
 use Rattle.marks.proofs.store_mark.Goals as goal
 
 pub overflow_add-saves_of : goal.overflow_add-saves_of

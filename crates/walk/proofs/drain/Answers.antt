@@ -1,20 +1,18 @@
 -- The queue until it is empty, where the map is the fewest; the loop keeps the queue and the entries.
 use mathlib.Core.Path.{◌≡◌, refl, ◌∙◌, subst}
-use Prim.Native.Nat.{ℕ, ◌-◌}
-use lib.ListN.{length}
+use Prim.Native.Nat.{ℕ}
 use Rattle.mcode.specs.Walk.{walk}
-use Rattle.depths.specs.Queue.{Queue, Entered}
+use Rattle.depths.specs.Queue.{Queue}
 use Rattle.depths.proofs.Theory.{entered-grows, drained}
 use Rattle.walk.proofs.Laws.{reals}
 use native.Mathlib.Omega.{arith}
-use borrow.Author.Rules.{rules}
 use Rattle.walk.proofs.drain.Goals as goal
 
 pub loop-h-init : goal.loop-h-init
 loop-h-init c = (c.requires.started.0, c.requires.started.1, refl, refl)
 
 pub step-t-requires : goal.step-t-requires
-step-t-requires c = 
+step-t-requires c =
     let S = c.requires.sound in let lent = c.requires.sizes_value in
     record { sound = S; sizes_value = lent; h_lt_t = (c.loop-h-test.true, c.loop-h.invariant.0) }
 

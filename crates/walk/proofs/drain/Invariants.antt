@@ -1,12 +1,8 @@
-use mathlib.Core.Path.{◌≡◌, refl, ◌∙◌, subst}
-use Prim.Native.Nat.{ℕ, ◌-◌}
+use mathlib.Core.Path.{◌≡◌}
+use Prim.Native.Nat.{◌-◌}
 use lib.ListN.{length}
 use Rattle.mcode.specs.Walk.{walk}
 use Rattle.depths.specs.Queue.{Queue, Entered}
-use Rattle.depths.proofs.Theory.{entered-grows, drained}
-use Rattle.walk.proofs.Laws.{reals}
-use native.Mathlib.Omega.{arith}
-use borrow.Author.Rules.{rules}
 use Rattle.walk.proofs.drain.Given as goal
 
 abbrev pub invariant-loop-h : goal.invariant-loop-h

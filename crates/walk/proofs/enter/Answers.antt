@@ -1,14 +1,11 @@
 -- The entries are visited; the loop keeps the queue and the entries that are marked.
-use mathlib.Core.Path.{◌≡◌, refl, ap, ◌∙◌}
-use Prim.Native.Nat.{◌-◌, ◌≤◌}
+use mathlib.Core.Path.{refl, ap, ◌∙◌}
 use lib.ListN.{length, length-replicate}
 use borrow.Author.Count.{below_none}
 use Rattle.mcode.specs.Walk.{walk}
-use Rattle.depths.specs.Queue.{Queue, Entered}
 use Rattle.depths.proofs.Theory.{blank-queue, enter-tail}
 use Rattle.walk.proofs.Laws.{real, reals, visited}
 use native.Mathlib.Omega.{arith}
-use borrow.Author.Rules.{rules}
 use Rattle.walk.proofs.enter.Goals as goal
 
 pub loop-i-init : goal.loop-i-init
@@ -21,7 +18,7 @@ pub entry_of-q-requires : goal.entry_of-q-requires
 entry_of-q-requires c = (omega (arith, c.proc_count-n.ensures.1), c.requires.sound.near)
 
 pub reach-t-requires : goal.reach-t-requires
-reach-t-requires c = 
+reach-t-requires c =
     let Q = c.loop-i.invariant.0 in
     record { map_in_bounds = Q.room; map_len_bound = omega (arith, Q.sized, c.requires.sound.short) }
 

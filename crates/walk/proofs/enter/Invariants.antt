@@ -1,13 +1,8 @@
-use mathlib.Core.Path.{◌≡◌, refl, ap, ◌∙◌}
+use mathlib.Core.Path.{◌≡◌}
 use Prim.Native.Nat.{◌-◌, ◌≤◌}
-use lib.ListN.{length, length-replicate}
-use borrow.Author.Count.{below_none}
+use lib.ListN.{length}
 use Rattle.mcode.specs.Walk.{walk}
 use Rattle.depths.specs.Queue.{Queue, Entered}
-use Rattle.depths.proofs.Theory.{blank-queue, enter-tail}
-use Rattle.walk.proofs.Laws.{real, reals, visited}
-use native.Mathlib.Omega.{arith}
-use borrow.Author.Rules.{rules}
 use Rattle.walk.proofs.enter.Given as goal
 
 abbrev pub invariant-loop-i : goal.invariant-loop-i

@@ -1,11 +1,8 @@
 -- The lowest marked position at fault; the loop keeps that those marked before p are whole.
 use mathlib.Core.Path.{◌≡◌, sym, ◌∙◌}
-use mathlib.Core.Logic.{⊎_elim}
 use mathlib.Core.Bool.{true}
-use Prim.Native.Nat.{ℕ, ◌-◌, ◌<◌}
-use lib.ListN.{length}
+use Prim.Native.Nat.{ℕ}
 use borrow.Author.Count.{below_more, below_none}
-use borrow.Author.Tests.{not-true, not-false}
 use Rattle.mcode.specs.Depths.{unmarked, Marked}
 use Rattle.mcode.specs.Walk.{walk, whole_at}
 use Rattle.mcode.proofs.Tests.{inside}
@@ -13,8 +10,6 @@ use Rattle.mcode.proofs.Reached.{walk-reached}
 use Rattle.depths.proofs.Lists.{get_d_any}
 use Rattle.walk.specs.Set.{counted}
 use native.Mathlib.Omega.{arith}
-use borrow.Author.Rules.{rules}
-use Rattle.walk.proofs.causes.is_whole.Reads as is-whole-reads
 use Rattle.walk.proofs.lowest.Goals as goal
 use Rattle.walk.proofs.lowest.Goals.{then-map-p+else-not-is_whole, else-map-p}
 
@@ -22,7 +17,7 @@ pub loop-p-init : goal.loop-p-init
 loop-p-init c = below_none _
 
 pub is_whole-requires : goal.is_whole-requires
-is_whole-requires c = 
+is_whole-requires c =
     let K = c.requires.known in let L = c.requires.fewest in
     record { p_lt_length = omega (arith, L.fits.sized, c.loop-p-test.true); known = K }
 
@@ -48,8 +43,8 @@ loop-p-preserved c =
     below_more (λ (q : ℕ). Marked (walk a.image.now a.m) a.map.now q → whole_at a.image.now (counted a.count a.procs.now) a.m q ≡ true)
     l.p l.invariant
     (λ k. elim c.if-map-p.branch [
-      then-map-p+else-not-is_whole w ↦ sym w.is_whole.ensures ∙ w.if-not-is_whole.false
-    | else-map-p w ↦ absurd (k (get_d_any a.map.now l.p unmarked 0 c.loop-p-test.true ∙ w.if-map-p.false))
+      | then-map-p+else-not-is_whole w ↦ sym w.is_whole.ensures ∙ w.if-not-is_whole.false
+      | else-map-p w ↦ absurd (k (get_d_any a.map.now l.p unmarked 0 c.loop-p-test.true ∙ w.if-map-p.false))
     ])
 
 pub returns : goal.returns

@@ -4,7 +4,6 @@ use mathlib.Core.Logic.{inl, inr}
 use Rattle.mcode.specs.Depths.{unmarked}
 use Rattle.depths.proofs.Lists.{get_d_any, free-pos}
 use native.Mathlib.Omega.{arith}
-use borrow.Author.Rules.{rules}
 use Rattle.walk.proofs.reach.Goals as goal
 
 pub bounds-work-t : goal.bounds-work-t

@@ -5,7 +5,6 @@ use Rattle.mcode.specs.Walk.{walk}
 use Rattle.depths.proofs.Theory.{in-queue}
 use Rattle.walk.proofs.Laws.{noted-room, turn-none, turn_one, turn_two}
 use native.Mathlib.Omega.{arith}
-use borrow.Author.Rules.{rules}
 use Rattle.walk.proofs.step.Goals as goal
 
 pub overflow_cast-p : goal.overflow_cast-p
@@ -15,13 +14,13 @@ overflow_cast-p c =
     omega (arith, (in-queue (walk a.image.now a.m) a.map.now a.work.now a.h a.t Q lt).1, Q.sized, S.short)
 
 pub ways_at-f-requires : goal.ways_at-f-requires
-ways_at-f-requires c = 
+ways_at-f-requires c =
     let a = c.args in
     let S = c.requires.sound in let lent = c.requires.sizes_value in let (lt, Q) = c.requires.h_lt_t in
     record { p_lt_length = (omega (arith, (in-queue (walk a.image.now a.m) a.map.now a.work.now a.h a.t Q lt).1, Q.sized), S); sizes_value = lent }
 
 pub reach-requires-in-Fork : goal.reach-requires-in-Fork
-reach-requires-in-Fork c = 
+reach-requires-in-Fork c =
     let a = c.args in
     let S = c.requires.sound in let (lt, Q) = c.requires.h_lt_t in
     let r = c.reach-s in

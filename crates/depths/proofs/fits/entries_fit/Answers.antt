@@ -1,15 +1,10 @@
 -- The test of the entries; the loop keeps that those before i fit.
-use Rattle.std.proofs.Common.{◌≡◌, ℕ, ◌-◌, ◌<◌, ◌≤◌, true, eqb, get_or, sym, ◌∙◌, ap₂, arith, rules, below_none, below_more}
-use borrow.Author.Tests.{not-true, not-false}
+use Rattle.std.proofs.Common.{◌≡◌, ℕ, true, eqb, get_or, sym, ◌∙◌, ap₂, arith, below_none, below_more}
 use Rattle.mcode.specs.Image.{proc_count}
 use Rattle.mcode.proofs.Tests.{at_all}
 use Rattle.depths.specs.Test.{entry_fits}
 use Rattle.depths.proofs.Bools.{one-fails}
 use Rattle.mcode.specs.Depths.{unmarked as none}
-use Rattle.depths.proofs.fits.has_mark.Reads as has-mark-reads
-use Rattle.depths.proofs.rules.entry_mark.Reads as entry-mark-reads
-use Rattle.depths.proofs.rules.entry_of.Reads as entry-of-reads
-use Rattle.depths.proofs.rules.proc_count.Reads as proc-count-reads
 use Rattle.depths.proofs.fits.entries_fit.Goals as goal
 
 pub loop-i-init : goal.loop-i-init
@@ -19,7 +14,7 @@ pub entry_of-q-requires : goal.entry_of-q-requires
 entry_of-q-requires c = (omega (arith, c.proc_count-n.ensures.1), c.requires.near)
 
 pub entry_mark-d-requires : goal.entry_mark-d-requires
-entry_mark-d-requires c = 
+entry_mark-d-requires c =
     let S = c.requires in
     let l = rw c.proc_count-n.ensures.0 at c.loop-i-test.true in
     record { i_bound = (omega (arith, c.proc_count-n.ensures.1), S.near); i_bound_2 = (S.params _ l, S.results _ l) }

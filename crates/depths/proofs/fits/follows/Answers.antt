@@ -1,5 +1,5 @@
 -- The test of the successors is `followed`, case by case.
-use Rattle.std.proofs.Common.{sym, refl, ◌∙◌, rules}
+use Rattle.std.proofs.Common.{sym, refl, ◌∙◌}
 use Rattle.depths.proofs.fits.follows.Goals as goal
 
 pub returns-then-has_mark : goal.returns-then-has_mark

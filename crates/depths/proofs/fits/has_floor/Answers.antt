@@ -1,7 +1,6 @@
 -- A mark lies above the floor by at most 16, and nothing else does.
 use Rattle.depths.proofs.Bools.{same-floor}
-use Rattle.std.proofs.Common.{arith, rules}
-use Rattle.std.proofs.num.wrapping_sub_u32.Reads as wrapping-sub-u32-reads
+use Rattle.std.proofs.Common.{arith}
 use Rattle.depths.proofs.fits.has_floor.Goals as goal
 
 pub returns : goal.returns

@@ -1,5 +1,5 @@
 -- A position outside the map is unmarked.
-use Rattle.std.proofs.Common.{ℕ, eqb, sym, ap, rules}
+use Rattle.std.proofs.Common.{ℕ, eqb, sym, ap}
 use lib.ListN.{get_or-eq_default}
 use Rattle.depths.proofs.Lists.{get_d_any}
 use Rattle.mcode.specs.Depths.{unmarked as none}

@@ -1,8 +1,7 @@
 -- The test of a whole map is `map_fits`; the loop keeps that all before `at` fits.
-use Rattle.std.proofs.Common.{◌-◌, sym, ◌∙◌, arith, rules}
-use borrow.Author.Tests.{not-true, not-false}
+use Rattle.std.proofs.Common.{sym, ◌∙◌, arith}
 use Rattle.depths.proofs.Same.{placed}
-use Rattle.depths.proofs.Whole.{Tested, none-tested, module-fails, module-passes, rest-decides}
+use Rattle.depths.proofs.Whole.{none-tested, module-fails, module-passes, rest-decides}
 use Rattle.depths.proofs.fits.map_fits.Goals as goal
 
 pub records_of-records-requires : goal.records_of-records-requires

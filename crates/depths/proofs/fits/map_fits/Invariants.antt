@@ -1,7 +1,5 @@
-use Rattle.std.proofs.Common.{◌-◌, sym, ◌∙◌, arith, rules}
-use borrow.Author.Tests.{not-true, not-false}
-use Rattle.depths.proofs.Same.{placed}
-use Rattle.depths.proofs.Whole.{Tested, none-tested, module-fails, module-passes, rest-decides}
+use Rattle.std.proofs.Common.{◌-◌}
+use Rattle.depths.proofs.Whole.{Tested}
 use Rattle.depths.proofs.fits.map_fits.Given as goal
 
 abbrev pub invariant-loop-k : goal.invariant-loop-k

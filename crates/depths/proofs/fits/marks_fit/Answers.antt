@@ -1,16 +1,11 @@
 -- The test of the positions; the loop keeps that those before p fit, and that `floor` is a mark at depth 0.
-use Rattle.std.proofs.Common.{◌≡◌, ℕ, ◌<◌, ◌≤◌, true, length, sym, refl, ◌∙◌, arith, rules, below_none, below_more, eqb-true}
-use borrow.Author.Tests.{not-true, not-false}
+use Rattle.std.proofs.Common.{◌≡◌, ℕ, true, sym, refl, ◌∙◌, arith, below_none, below_more, eqb-true}
 use Rattle.mcode.specs.Depths.{depth_of, promised, saves, list_of, is_list, is_mark}
 use Rattle.mcode.proofs.Tests.{and_both, at_all}
 use Rattle.mcode.proofs.Marks.{mark-real}
 use Rattle.depths.specs.Lent.{depths_of}
 use Rattle.depths.specs.Test.{mark_fits}
-use Rattle.depths.proofs.Bools.{one-fails, Floor, floor-real, left, position-less, floor-less, mark-tested, mark-absent, mark-odd}
-use Rattle.depths.proofs.fits.has_floor.Reads as has-floor-reads
-use Rattle.depths.proofs.fits.position_fits.Reads as position-fits-reads
-use Rattle.marks.proofs.is_mark.Reads as is-mark-reads
-use Rattle.marks.proofs.passed_on.Reads as passed-on-reads
+use Rattle.depths.proofs.Bools.{one-fails, floor-real, position-less, floor-less, mark-tested, mark-absent, mark-odd}
 use Rattle.depths.proofs.fits.marks_fit.Goals as goal
 
 pub loop-p-init : goal.loop-p-init
@@ -21,7 +16,7 @@ pub has_floor-requires : goal.has_floor-requires
 has_floor-requires c = c.loop-p.invariant.1
 
 pub position_fits-ok-requires : goal.position_fits-ok-requires
-position_fits-ok-requires c = 
+position_fits-ok-requires c =
     let (l, f) = and_both _ _ (sym c.has_floor.ensures ∙ c.if-has_floor.true) in
     record { p_lt_length = (omega (arith, c.requires.map_len.0, c.loop-p-test.true), c.requires.map_len.0, c.requires.map_len.1); mark_value = (l, sym (eqb-true _ _ f)); ready = c.requires.ready }
 

@@ -1,15 +1,7 @@
-use Rattle.std.proofs.Common.{◌≡◌, ℕ, ◌<◌, ◌≤◌, true, length, sym, refl, ◌∙◌, arith, rules, below_none, below_more, eqb-true}
-use borrow.Author.Tests.{not-true, not-false}
-use Rattle.mcode.specs.Depths.{depth_of, promised, saves, list_of, is_list, is_mark}
-use Rattle.mcode.proofs.Tests.{and_both, at_all}
-use Rattle.mcode.proofs.Marks.{mark-real}
+use Rattle.std.proofs.Common.{◌≡◌, ℕ, ◌<◌, ◌≤◌, true, length}
 use Rattle.depths.specs.Lent.{depths_of}
 use Rattle.depths.specs.Test.{mark_fits}
-use Rattle.depths.proofs.Bools.{one-fails, Floor, floor-real, left, position-less, floor-less, mark-tested, mark-absent, mark-odd}
-use Rattle.depths.proofs.fits.has_floor.Reads as has-floor-reads
-use Rattle.depths.proofs.fits.position_fits.Reads as position-fits-reads
-use Rattle.marks.proofs.is_mark.Reads as is-mark-reads
-use Rattle.marks.proofs.passed_on.Reads as passed-on-reads
+use Rattle.depths.proofs.Bools.{Floor, left}
 use Rattle.depths.proofs.fits.marks_fit.Given as goal
 
 abbrev pub invariant-loop-p : goal.invariant-loop-p

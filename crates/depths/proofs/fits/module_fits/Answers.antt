@@ -1,5 +1,5 @@
 -- The test of a module: the bytes before its code, and its part.
-use Rattle.std.proofs.Common.{◌+◌, sym, refl, ap, ◌∙◌, arith, rules}
+use Rattle.std.proofs.Common.{◌+◌, sym, refl, ap, ◌∙◌, arith}
 use Rattle.mcode.specs.Depths.{fits}
 use Rattle.depths.specs.Lent.{depths_of}
 use Rattle.depths.proofs.Parts.{length_part}
@@ -22,7 +22,7 @@ pub slice_bounds-part_fits-end : goal.slice_bounds-part_fits-end
 slice_bounds-part_fits-end c = omega (arith, c.requires.sound.0.within, c.requires.image_in_bounds.0)
 
 pub part_fits-requires : goal.part_fits-requires
-part_fits-requires c = 
+part_fits-requires c =
     let m = c.args.m in
     record { sound = c.requires.sound; map_len = length_part c.args.map.now m.code (m.code + m.length) (omega (arith, c.requires.sound.0.within, c.requires.image_in_bounds.0)) ∙ omega arith }
 

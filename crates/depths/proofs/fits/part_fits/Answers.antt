@@ -1,5 +1,5 @@
 -- The test of a module's part is `fits`.
-use Rattle.std.proofs.Common.{sym, refl, ◌∙◌, rules, eq-eqb}
+use Rattle.std.proofs.Common.{sym, refl, ◌∙◌, eq-eqb}
 use Rattle.mcode.specs.Opcode.{lengths, takens, lefts}
 use Rattle.mcode.specs.Depths.{fits}
 use Rattle.depths.specs.Cases.{kind_of, kinds_from, kinds}

@@ -1,21 +1,11 @@
 -- The test of a position is `followed` of its flow: by its row, and by the kind of its opcode.
-use Rattle.std.proofs.Common.{◌≡◌, ◌+◌, ◌-◌, length, sym, refl, ap, ◌∙◌, arith, length-drop, rules}
+use Rattle.std.proofs.Common.{◌≡◌, ◌+◌, ◌-◌, length, sym, refl, ap, ◌∙◌, arith, length-drop}
 use Rattle.mcode.specs.Depths.{depth_of}
 use Rattle.mcode.proofs.Marks.{passed-own, passed-floor}
 use Rattle.depths.specs.Lent.{light_of}
 use Rattle.depths.specs.Test.{followed_in}
 use Rattle.depths.proofs.Flows.{kind-other, kind-saves, flow-unfit, flow-plain, flow-jump, flow-last, flow-saves, flow-unlisted, flow_next, code-byte}
 use Rattle.depths.proofs.Bools.{last-follows}
-use Rattle.depths.proofs.fits.follows.Reads as follows-reads
-use Rattle.depths.proofs.fits.has_mark.Reads as has-mark-reads
-use Rattle.depths.proofs.rules.byte_at.Reads as byte-at-reads
-use Rattle.depths.proofs.rules.jump.Reads as jump-reads
-use Rattle.depths.proofs.rules.kind_of.Reads as kind-of-reads
-use Rattle.depths.proofs.rules.moved.Reads as moved-reads
-use Rattle.depths.proofs.rules.onward_at.Reads as onward-at-reads
-use Rattle.depths.proofs.rules.row_at.Reads as row-at-reads
-use Rattle.depths.proofs.rules.target_at.Reads as target-at-reads
-use Rattle.marks.proofs.permitted.Reads as permitted-reads
 use Rattle.depths.proofs.fits.position_fits.Goals as goal
 
 pub bounds-code-p : goal.bounds-code-p
@@ -25,7 +15,7 @@ pub overflow_sub-mark : goal.overflow_sub-mark
 overflow_sub-mark c = omega (arith, c.requires.mark_value.1, passed-own c.args.mark, passed-floor c.args.mark (depth_of c.args.mark))
 
 pub row_at-row-requires : goal.row_at-row-requires
-row_at-row-requires c = 
+row_at-row-requires c =
     let d : c.args.mark - c.args.floor ≡ depth_of c.args.mark = omega (arith, c.requires.mark_value.1, passed-own c.args.mark, passed-floor c.args.mark (depth_of c.args.mark)) in
     record { p_bound = (omega (arith, c.requires.p_lt_length.0, c.requires.ready.sound.short), c.requires.mark_value.0, d); sizes_value = (c.requires.ready.sizes-are, c.requires.ready.takes-are, c.requires.ready.leaves-are) }
 
@@ -77,7 +67,7 @@ pub overflow_add-p-then-kind-le-NAMES-2 : goal.overflow_add-p-then-kind-le-NAMES
 overflow_add-p-then-kind-le-NAMES-2 c = omega (arith, c.requires.p_lt_length.0, c.requires.ready.sound.short)
 
 pub onward_at-f-requires : goal.onward_at-f-requires
-onward_at-f-requires c = 
+onward_at-f-requires c =
     let (j, h, p) = kind-other _ _ c.kind_of-kind.ensures c.if-kind-le-LAST.false c.if-kind-le-NAMES.true in
     record { op_value = (j, h, p, c.requires.ready.sound); placed = c.requires.ready.placed }
 

@@ -1,5 +1,5 @@
 -- The test of a gap; the loop keeps that all before i is clear.
-use Rattle.std.proofs.Common.{◌≡◌, ℕ, ◌-◌, ◌<◌, ◌≤◌, true, eqb, ltb, get_or, sym, refl, arith, rules, below_more, le-ltb, lt-ltb, eq-eqb, ne_eqb}
+use Rattle.std.proofs.Common.{◌≡◌, ℕ, true, eqb, ltb, get_or, sym, refl, arith, below_more, le-ltb, lt-ltb, eq-eqb, ne_eqb}
 use Rattle.mcode.proofs.Tests.{first-or, second-or, at_all}
 use Rattle.depths.specs.Test.{clear}
 use Rattle.depths.proofs.Bools.{one-fails}

@@ -1,6 +1,6 @@
 -- The lists have the numbers of the program's modules; the loop keeps those before k.
-use Rattle.std.proofs.Common.{◌≡◌, ℕ, ◌-◌, ◌<◌, ◌≤◌, length, get_or, refl, ◌∙◌, arith, length-set, rules, below_none}
-use Rattle.mcode.specs.Image.{most_modules, module_of}
+use Rattle.std.proofs.Common.{refl, ◌∙◌, arith, length-set, below_none}
+use Rattle.mcode.specs.Image.{module_of}
 use Rattle.depths.proofs.Same.{set_more}
 use Rattle.depths.proofs.records.records_of.Goals as goal
 

@@ -1,6 +1,5 @@
-use Rattle.std.proofs.Common.{◌≡◌, ℕ, ◌-◌, ◌<◌, ◌≤◌, length, get_or, refl, ◌∙◌, arith, length-set, rules, below_none}
+use Rattle.std.proofs.Common.{◌≡◌, ℕ, ◌-◌, ◌<◌, ◌≤◌, length, get_or}
 use Rattle.mcode.specs.Image.{most_modules, module_of}
-use Rattle.depths.proofs.Same.{set_more}
 use Rattle.depths.proofs.records.records_of.Given as goal
 
 abbrev pub invariant-loop-k : goal.invariant-loop-k

@@ -1,6 +1,5 @@
 -- A byte of the image, 0 outside.
-use Rattle.std.proofs.Common.{◌-◌, sym, rules}
-use Rattle.mcode.specs.Word.{byte}
+use Rattle.std.proofs.Common.{sym}
 use lib.ListN.{get_or-eq_default}
 use Rattle.depths.proofs.rules.byte_at.Goals as goal
 

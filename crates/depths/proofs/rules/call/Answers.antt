@@ -1,13 +1,8 @@
 -- What follows a call inside the module.
-use Rattle.std.proofs.Common.{◌≡◌, sym, refl, ap, ◌∙◌, arith, rules, le-ltb, lt-ltb, eq-eqb, ne_eqb}
+use Rattle.std.proofs.Common.{◌≡◌, sym, refl, ap, ◌∙◌, arith, le-ltb, lt-ltb, eq-eqb, ne_eqb}
 use Rattle.mcode.specs.Image.{params_of}
 use Rattle.mcode.specs.Depths.{depth_of, passed, calls}
 use Rattle.mcode.specs.declared.Flow.TheVariants.{To}
-use Rattle.depths.proofs.rules.params_of.Reads as params-of-reads
-use Rattle.depths.proofs.rules.proc_count.Reads as proc-count-reads
-use Rattle.depths.proofs.rules.results_of.Reads as results-of-reads
-use Rattle.marks.proofs.depth_of.Reads as depth-of-reads
-use Rattle.marks.proofs.passed_on.Reads as passed-on-reads
 use Rattle.depths.proofs.rules.call.Goals as goal
 
 pub passed_on-requires : goal.passed_on-requires

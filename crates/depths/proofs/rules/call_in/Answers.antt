@@ -1,8 +1,7 @@
 -- What follows a call of another module, from the lent records.
-use Rattle.std.proofs.Common.{refl, rules, le-ltb, lt-ltb}
+use Rattle.std.proofs.Common.{refl, le-ltb, lt-ltb}
 use Rattle.mcode.specs.Depths.{calls_in}
 use Rattle.depths.proofs.Marks.{light-at}
-use Rattle.depths.proofs.rules.call.Reads as call-reads
 use Rattle.depths.proofs.rules.call_in.Goals as goal
 
 pub call-requires : goal.call-requires

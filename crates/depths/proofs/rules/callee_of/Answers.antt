@@ -1,5 +1,5 @@
 -- The operand names the procedure, or the opcode does.
-use Rattle.std.proofs.Common.{ℕ, ◌-◌, ap, arith, rules, le-leb}
+use Rattle.std.proofs.Common.{ℕ, ◌-◌, ap, arith, le-leb}
 use borrow.Author.Tests.{lt-leb}
 use Rattle.depths.proofs.rules.callee_of.Goals as goal
 

@@ -1,8 +1,5 @@
-use Rattle.std.proofs.Common.{◌∙◌, ap₂, arith, rules}
+use Rattle.std.proofs.Common.{◌∙◌, ap₂, arith}
 use Rattle.mcode.specs.Depths.{mark_of}
-use Rattle.depths.proofs.rules.params_of.Reads as params-of-reads
-use Rattle.depths.proofs.rules.results_of.Reads as results-of-reads
-use Rattle.marks.proofs.pack.Reads as pack-reads
 use Rattle.depths.proofs.rules.entry_mark.Goals as goal
 
 pub pack-requires : goal.pack-requires

@@ -1,5 +1,5 @@
 -- The entry word of a procedure record.
-use Rattle.std.proofs.Common.{ℕ, ◌+◌, ◌-◌, ◌*◌, ◌∙◌, ap₂, rules, eq-eqb, ne_eqb}
+use Rattle.std.proofs.Common.{ℕ, ◌+◌, ◌*◌, ◌∙◌, ap₂, eq-eqb, ne_eqb}
 use Rattle.depths.proofs.rules.entry_of.Goals as goal
 
 pub returns-then-m-eq0 : goal.returns-then-m-eq0

@@ -1,17 +1,8 @@
 -- What follows a position with a mark is `flow_at`: by its row, and by the kind of its opcode.
-use Rattle.std.proofs.Common.{◌≡◌, ◌+◌, sym, refl, ap, ◌∙◌, arith, rules}
+use Rattle.std.proofs.Common.{◌≡◌, ◌+◌, sym, refl, ap, ◌∙◌, arith}
 use Rattle.mcode.specs.Word.{byte}
 use Rattle.depths.specs.Lent.{light_of}
 use Rattle.depths.proofs.Flows.{kind-other, kind-saves, flow-unfit, flow-plain, flow-jump, flow-last, flow-saves, flow-unlisted, flow_next}
-use Rattle.depths.proofs.rules.byte_at.Reads as byte-at-reads
-use Rattle.depths.proofs.rules.jump.Reads as jump-reads
-use Rattle.depths.proofs.rules.kind_of.Reads as kind-of-reads
-use Rattle.depths.proofs.rules.last.Reads as last-reads
-use Rattle.depths.proofs.rules.moved.Reads as moved-reads
-use Rattle.depths.proofs.rules.onward_at.Reads as onward-at-reads
-use Rattle.depths.proofs.rules.row_at.Reads as row-at-reads
-use Rattle.depths.proofs.rules.target_at.Reads as target-at-reads
-use Rattle.marks.proofs.depth_of.Reads as depth-of-reads
 use Rattle.depths.proofs.rules.flow_at.Goals as goal
 
 pub overflow_add-op : goal.overflow_add-op
@@ -63,7 +54,7 @@ pub overflow_add-m-then-kind-le-NAMES-2 : goal.overflow_add-m-then-kind-le-NAMES
 overflow_add-m-then-kind-le-NAMES-2 c = omega (arith, c.requires.p_lt_length.0, c.requires.ready.sound.within, c.requires.ready.placed.brief)
 
 pub onward_at-requires : goal.onward_at-requires
-onward_at-requires c = 
+onward_at-requires c =
     let (j, h, p) = kind-other _ _ c.kind_of-kind.ensures c.if-kind-le-LAST.false c.if-kind-le-NAMES.true in
     record { op_value = (j, h, p, c.requires.ready.sound); placed = c.requires.ready.placed }
 

@@ -1,5 +1,5 @@
 -- Opcodes 030 to 037.
-use Rattle.std.proofs.Common.{◌-◌, le-ltb, lt-ltb, le-leb}
+use Rattle.std.proofs.Common.{le-ltb, lt-ltb, le-leb}
 use borrow.Author.Tests.{lt-leb}
 use Rattle.depths.proofs.rules.is_jump.Goals as goal
 

@@ -1,5 +1,5 @@
 -- What follows a jump, conditional or not.
-use Rattle.std.proofs.Common.{◌-◌, ap, rules, eq-eqb, ne_eqb, le-leb}
+use Rattle.std.proofs.Common.{ap, eq-eqb, ne_eqb, le-leb}
 use Rattle.mcode.specs.Depths.{jumps}
 use Rattle.mcode.specs.declared.Flow.TheVariants.{Fork}
 use borrow.Author.Tests.{lt-leb}

@@ -1,6 +1,5 @@
 -- RTN and TRAP have no successor, where they are permitted.
-use Rattle.std.proofs.Common.{sym, refl, ◌∙◌, rules}
-use Rattle.marks.proofs.permitted.Reads as permitted-reads
+use Rattle.std.proofs.Common.{sym, refl, ◌∙◌}
 use Rattle.depths.proofs.rules.last.Goals as goal
 
 pub returns-then-permitted : goal.returns-then-permitted

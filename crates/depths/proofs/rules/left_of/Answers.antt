@@ -1,6 +1,5 @@
 -- The lent table is the column of words left.
-use Rattle.std.proofs.Common.{ℕ, List, get_or, ap, ◌∙◌, rules}
-use Rattle.depths.proofs.rules.wide32.Reads as wide32-reads
+use Rattle.std.proofs.Common.{ℕ, List, get_or, ap, ◌∙◌}
 use Rattle.depths.proofs.rules.left_of.Goals as goal
 
 pub returns : goal.returns

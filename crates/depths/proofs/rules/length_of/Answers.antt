@@ -1,5 +1,5 @@
 -- The lent table is the length column.
-use Rattle.std.proofs.Common.{ℕ, ◌-◌, List, length, get_or, ap, ◌∙◌, rules}
+use Rattle.std.proofs.Common.{ℕ, List, get_or, ap, ◌∙◌}
 use Rattle.depths.proofs.rules.length_of.Goals as goal
 
 pub returns : goal.returns

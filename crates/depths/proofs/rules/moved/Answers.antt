@@ -1,13 +1,9 @@
 -- STORE and LODFW by the marks that they leave, where they are permitted.
-use Rattle.std.proofs.Common.{sym, refl, ap, ◌∙◌, rules}
-use borrow.Author.Tests.{not-true, not-false}
+use Rattle.std.proofs.Common.{sym, refl, ap, ◌∙◌}
 use Rattle.mcode.specs.Depths.{permits}
 use Rattle.mcode.specs.declared.Flow.TheVariants.{To}
 use Rattle.mcode.proofs.Marks.{leaves-stored, leaves-fetched}
 use Rattle.depths.proofs.Flows.{saved-fetch}
-use Rattle.marks.proofs.fetch_mark.Reads as fetch-mark-reads
-use Rattle.marks.proofs.permitted.Reads as permitted-reads
-use Rattle.marks.proofs.store_mark.Reads as store-mark-reads
 use Rattle.depths.proofs.rules.moved.Goals as goal
 
 pub returns-then-not-permitted : goal.returns-then-not-permitted

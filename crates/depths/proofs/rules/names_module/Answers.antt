@@ -1,5 +1,5 @@
 -- Opcodes 027, 042, 062, 043 and 063.
-use Rattle.std.proofs.Common.{◌-◌, eq-eqb, ne_eqb}
+use Rattle.std.proofs.Common.{eq-eqb, ne_eqb}
 use Rattle.depths.proofs.rules.names_module.Goals as goal
 
 pub returns-then-op-eq23 : goal.returns-then-op-eq23

@@ -1,15 +1,11 @@
 -- What follows an instruction that is no jump, has successors and is not plain: it names a module, or is a call.
-use Rattle.std.proofs.Common.{◌≡◌, ℕ, ◌-◌, ltb, sym, refl, ap, ◌∙◌, ap₂, arith, rules, le-ltb, lt-ltb}
+use Rattle.std.proofs.Common.{◌≡◌, ℕ, ltb, sym, refl, ap, ◌∙◌, ap₂, arith, le-ltb, lt-ltb}
 use Rattle.mcode.specs.Word.{pick}
 use Rattle.mcode.specs.Depths.{depth_of, passed, carry, calls, calls_in}
 use Rattle.mcode.specs.declared.Flow.TheVariants.{Fault, To}
 use Rattle.mcode.proofs.Marks.{passed-own}
 use Rattle.depths.specs.Lent.{light_of}
 use Rattle.depths.proofs.Flows.{onward-names, onward-far, onward_near}
-use Rattle.depths.proofs.rules.call.Reads as call-reads
-use Rattle.depths.proofs.rules.call_in.Reads as call-in-reads
-use Rattle.depths.proofs.rules.callee_of.Reads as callee-of-reads
-use Rattle.depths.proofs.rules.wide.Reads as wide-reads
 use Rattle.depths.proofs.rules.onward_at.Goals as goal
 
 pub returns-then-wide-count : goal.returns-then-wide-count

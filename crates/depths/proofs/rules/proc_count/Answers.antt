@@ -1,5 +1,5 @@
 -- A module with no records has one procedure.
-use Rattle.std.proofs.Common.{◌-◌, arith, rules, eq-eqb, ne_eqb}
+use Rattle.std.proofs.Common.{arith, eq-eqb, ne_eqb}
 use Rattle.depths.proofs.rules.proc_count.Goals as goal
 
 pub returns-then-m-eq0 : goal.returns-then-m-eq0

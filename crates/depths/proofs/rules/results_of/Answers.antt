@@ -1,6 +1,5 @@
 -- The result byte of a procedure record.
-use Rattle.std.proofs.Common.{◌-◌, rules, eq-eqb, ne_eqb}
-use Rattle.mcode.specs.Word.{byte}
+use Rattle.std.proofs.Common.{eq-eqb, ne_eqb}
 use Rattle.depths.proofs.rules.results_of.Goals as goal
 
 pub returns-then-m-eq0 : goal.returns-then-m-eq0

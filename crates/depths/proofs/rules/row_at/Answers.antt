@@ -1,13 +1,10 @@
 -- The row of an opcode, by its tests: the mark that it leaves has the words taken less and the words left more.
-use Rattle.std.proofs.Common.{ℕ, ◌+◌, ◌-◌, ◌<◌, ◌≤◌, get_or, refl, ap, ap₂, arith, rules, le-ltb, lt-ltb}
+use Rattle.std.proofs.Common.{ℕ, ◌+◌, ◌-◌, ◌<◌, ◌≤◌, get_or, refl, ap, ap₂, arith, le-ltb, lt-ltb}
 use Rattle.mcode.specs.Opcode.{lengths, takens, lefts}
 use Rattle.mcode.specs.Depths.{depth_of}
 use Rattle.mcode.proofs.Marks.{depth_below, mark-small, passed-row}
 use Rattle.depths.specs.declared.rules.Row.TheVariants.{Next}
 use Rattle.depths.specs.Cases.{row_at}
-use Rattle.depths.proofs.rules.left_of.Reads as left-of-reads
-use Rattle.depths.proofs.rules.length_of.Reads as length-of-reads
-use Rattle.depths.proofs.rules.taken_of.Reads as taken-of-reads
 use Rattle.depths.proofs.rules.row_at.Goals as goal
 
 pub returns-then-length-n : goal.returns-then-length-n

@@ -1,6 +1,5 @@
 -- The lent table is the column of words taken.
-use Rattle.std.proofs.Common.{ℕ, List, get_or, ap, ◌∙◌, rules}
-use Rattle.depths.proofs.rules.wide32.Reads as wide32-reads
+use Rattle.std.proofs.Common.{ℕ, List, get_or, ap, ◌∙◌}
 use Rattle.depths.proofs.rules.taken_of.Goals as goal
 
 pub returns : goal.returns

@@ -1,5 +1,5 @@
 -- The target of a jump, modulo 65,536.
-use Rattle.std.proofs.Common.{ℕ, ◌+◌, ◌-◌, ◌*◌, ◌%◌, ap, ◌∙◌, ap₂, rules, le-ltb, lt-ltb, eq-eqb, ne_eqb}
+use Rattle.std.proofs.Common.{ℕ, ◌+◌, ◌-◌, ◌*◌, ◌%◌, ap, ◌∙◌, ap₂, le-ltb, lt-ltb, eq-eqb, ne_eqb}
 use Rattle.mcode.specs.Depths.{target}
 use Rattle.depths.proofs.rules.target_at.Goals as goal
 

@@ -1,12 +1,10 @@
 -- The first cause that holds: the tests of `cause_at`, in its order.
 use mathlib.Core.Path.{sym, ap, ◌∙◌}
 use mathlib.Core.Bool.{Bool, not}
-use borrow.Author.Tests.{not-true, not-false}
 use Rattle.mcode.specs.Word.{pick}
 use Rattle.mcode.specs.declared.Cause.TheVariants.{Nothing, Successor}
 use Rattle.walk.specs.Set.{counted}
 use Rattle.walk.proofs.Opcodes.{cause-none, cause-cut, cause-name, cause-ways}
-use borrow.Author.Rules.{rules}
 use Rattle.walk.proofs.causes.cause_at.Goals as goal
 
 pub returns-then-kind_of-gt-SAVES : goal.returns-then-kind_of-gt-SAVES

@@ -3,7 +3,6 @@ use mathlib.Core.Path.{refl, ap}
 use lib.Dec.{ltb}
 use Rattle.depths.proofs.Marks.{light-at}
 use borrow.Author.Tests.{lt-ltb, le-ltb}
-use borrow.Author.Rules.{rules}
 use Rattle.walk.proofs.causes.has_procedure.Goals as goal
 
 pub returns-then-k-count : goal.returns-then-k-count

@@ -6,7 +6,6 @@ use Rattle.mcode.specs.Image.{proc_count}
 use Rattle.mcode.specs.Walk.{named}
 use Rattle.walk.proofs.Opcodes.{either}
 use borrow.Author.Tests.{ne_eqb, lt-ltb, le-ltb, eq-eqb}
-use borrow.Author.Rules.{rules}
 use Rattle.walk.proofs.causes.is_named.Goals as goal
 
 pub returns-then-names_module : goal.returns-then-names_module

@@ -1,7 +1,6 @@
 -- A position with no cause of fault is whole.
 use mathlib.Core.Path.{refl, sym, ◌∙◌}
 use Rattle.mcode.specs.Walk.{whole_at}
-use borrow.Author.Rules.{rules}
 use Rattle.walk.proofs.causes.is_whole.Goals as goal
 
 pub returns-in-Nothing : goal.returns-in-Nothing

@@ -1,7 +1,6 @@
 -- The successors in the code, case by case.
 use mathlib.Core.Path.{refl}
 use borrow.Author.Tests.{lt-ltb, le-ltb}
-use borrow.Author.Rules.{rules}
 use Rattle.walk.proofs.causes.stays_in.Goals as goal
 
 pub returns-then-q-length : goal.returns-then-q-length

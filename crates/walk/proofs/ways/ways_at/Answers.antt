@@ -8,7 +8,6 @@ use Rattle.depths.proofs.Parts.{part-rest}
 use Rattle.depths.proofs.Flows.{code-byte}
 use Rattle.walk.proofs.Opcodes.{way-none, way-cut, way-last, way-jump, way_next}
 use native.Mathlib.Omega.{arith}
-use borrow.Author.Rules.{rules}
 use Rattle.walk.proofs.ways.ways_at.Goals as goal
 
 pub returns-then-kind-gt-SAVES : goal.returns-then-kind-gt-SAVES

@@ -1,5 +1,4 @@
 use Rattle.words.proofs.Families.{bits-word}
-use Rattle.std.proofs.Common.{rules}
 use Rattle.words.proofs.bits.bitwise.Goals as goal
 
 pub returns : goal.returns

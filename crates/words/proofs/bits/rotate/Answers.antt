@@ -1,4 +1,4 @@
-use Rattle.std.proofs.Common.{div-one, rules}
+use Rattle.std.proofs.Common.{div-one}
 use native.Mathlib.Nat.{mul-mod_left}
 use lib.Bits.{or_zero_r}
 use Rattle.words.proofs.bits.rotate.Goals as goal

@@ -1,4 +1,4 @@
-use Rattle.std.proofs.Common.{rules, le-ltb, lt-ltb}
+use Rattle.std.proofs.Common.{le-ltb, lt-ltb}
 use Rattle.words.proofs.bits.shr.Goals as goal
 
 pub returns-then-a-lt16 : goal.returns-then-a-lt16

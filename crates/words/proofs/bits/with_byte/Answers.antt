@@ -1,4 +1,4 @@
-use Rattle.std.proofs.Common.{rules, eq-eqb, ne_eqb}
+use Rattle.std.proofs.Common.{eq-eqb, ne_eqb}
 use Rattle.words.proofs.bits.with_byte.Goals as goal
 
 pub returns-then-i-eq0 : goal.returns-then-i-eq0

@@ -1,4 +1,4 @@
-use Rattle.std.proofs.Common.{◌≡◌, ℕ, ◌≤◌, arith, rules}
+use Rattle.std.proofs.Common.{◌≡◌, ℕ, ◌≤◌, arith}
 use Rattle.mcode.specs.Word.{double_of}
 use Rattle.words.proofs.doubles.double_sums.Goals as goal
 

@@ -1,4 +1,3 @@
-use Rattle.std.proofs.Common.{rules}
 use Rattle.words.proofs.sides.answer_of.Goals as goal
 
 pub returns : goal.returns

@@ -1,4 +1,4 @@
-use Rattle.std.proofs.Common.{ap, ◌∙◌, rules}
+use Rattle.std.proofs.Common.{ap, ◌∙◌}
 use Rattle.mcode.specs.declared.Value.TheVariants.{Is}
 use Rattle.words.proofs.Families.{unsigned-word}
 use Rattle.words.proofs.sides.compared.Goals as goal

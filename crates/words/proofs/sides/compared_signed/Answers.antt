@@ -1,5 +1,4 @@
 use Rattle.words.proofs.Families.{signed_word}
-use Rattle.std.proofs.Common.{rules}
 use Rattle.words.proofs.sides.compared_signed.Goals as goal
 
 pub returns : goal.returns

@@ -1,5 +1,5 @@
 use Rattle.words.proofs.Numbers.{low_signed}
-use Rattle.std.proofs.Common.{rules, le-ltb, lt-ltb}
+use Rattle.std.proofs.Common.{le-ltb, lt-ltb}
 use Rattle.words.proofs.signed.abs.Goals as goal
 
 pub returns-then-a-lt32768 : goal.returns-then-a-lt32768

@@ -1,5 +1,4 @@
 use Rattle.words.proofs.Numbers.{held16}
-use Rattle.std.proofs.Common.{rules}
 use Rattle.words.proofs.signed.is_at_most.Goals as goal
 
 pub returns : goal.returns

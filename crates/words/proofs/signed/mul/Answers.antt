@@ -1,4 +1,4 @@
-use Rattle.std.proofs.Common.{◌*ℤ◌, rules}
+use Rattle.std.proofs.Common.{◌*ℤ◌}
 use Rattle.words.proofs.Numbers.{in32, mul-mag}
 use Rattle.words.proofs.signed.mul.Goals as goal
 

@@ -1,4 +1,4 @@
-use Rattle.std.proofs.Common.{◌<◌, pos, ◌-ℤ◌, neg_ℤ, w16, to_z, rules, lt-ltb}
+use Rattle.std.proofs.Common.{◌<◌, pos, ◌-ℤ◌, neg_ℤ, w16, to_z, lt-ltb}
 use lib.Signed.{mag}
 use Rattle.words.proofs.Numbers.{same16, held16, neg-fits, opposite}
 use Rattle.words.proofs.signed.neg.Goals as goal

@@ -1,5 +1,5 @@
 use lib.Signed.{quot_z}
-use Rattle.std.proofs.Common.{w16, to_z, rules, lt-ltb}
+use Rattle.std.proofs.Common.{w16, to_z, lt-ltb}
 use Rattle.words.proofs.Numbers.{same16, held16, small16, quot_fits, nonzero16}
 use Rattle.words.proofs.signed.quotient.Goals as goal
 

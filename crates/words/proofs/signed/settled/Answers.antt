@@ -1,4 +1,4 @@
-use Rattle.std.proofs.Common.{w32, rules, lt-ltb}
+use Rattle.std.proofs.Common.{w32, lt-ltb}
 use mir.ValLaws.{to_z-of_z}
 use Rattle.words.proofs.Numbers.{same16, low, high, mid}
 use Rattle.words.proofs.signed.settled.Goals as goal

@@ -1,4 +1,4 @@
-use Rattle.std.proofs.Common.{w16, to_z, rules}
+use Rattle.std.proofs.Common.{w16, to_z}
 use mir.ValLaws.{to_z-of_z, to_z-Fits}
 use Rattle.words.proofs.Numbers.{signed_high}
 use Rattle.words.proofs.signed.signed_of.Goals as goal

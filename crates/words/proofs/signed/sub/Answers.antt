@@ -1,4 +1,4 @@
-use Rattle.std.proofs.Common.{◌-ℤ◌, rules}
+use Rattle.std.proofs.Common.{◌-ℤ◌}
 use Rattle.words.proofs.Numbers.{in32, sub-mag}
 use Rattle.words.proofs.signed.sub.Goals as goal
 

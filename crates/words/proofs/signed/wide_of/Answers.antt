@@ -1,4 +1,4 @@
-use Rattle.std.proofs.Common.{◌<◌, arith, rules}
+use Rattle.std.proofs.Common.{◌<◌, arith}
 use lib.Signed.{mag}
 use Rattle.words.proofs.Numbers.{fits32, same16, small16, small32}
 use Rattle.words.proofs.signed.wide_of.Goals as goal

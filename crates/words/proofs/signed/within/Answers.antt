@@ -1,4 +1,4 @@
-use Rattle.std.proofs.Common.{sym, ◌∙◌, rules}
+use Rattle.std.proofs.Common.{sym, ◌∙◌}
 use Rattle.words.proofs.signed.within.Goals as goal
 
 pub returns-then-is_at_most-2 : goal.returns-then-is_at_most-2

@@ -1,4 +1,4 @@
-use Rattle.std.proofs.Common.{◌*◌, ◌<◌, ◌≤◌, mul-le-mul, arith, rules}
+use Rattle.std.proofs.Common.{◌*◌, ◌<◌, ◌≤◌, mul-le-mul, arith}
 use Rattle.words.proofs.unsigned.mul.Goals as goal
 
 pub overflow_mul-result : goal.overflow_mul-result

@@ -1,4 +1,4 @@
-use Rattle.std.proofs.Common.{sym, arith, rules}
+use Rattle.std.proofs.Common.{sym, arith}
 use Rattle.words.proofs.Results.{word-settles, above-settles}
 use Rattle.words.proofs.unsigned.settled.Goals as goal
 

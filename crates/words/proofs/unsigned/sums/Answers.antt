@@ -1,5 +1,4 @@
 use Rattle.words.proofs.Families.{sums_word}
-use Rattle.std.proofs.Common.{rules}
 use Rattle.words.proofs.unsigned.sums.Goals as goal
 
 pub returns : goal.returns

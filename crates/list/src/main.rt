@@ -33,6 +33,7 @@ fn is_asked(count: usize) -> bool {
 
 // An image of n bytes. A blank line stands between two listings.
 fn list_bytes(
+    streams: Streams,
     out: &mut Block,
     used: &mut usize,
     i: usize,
@@ -47,15 +48,15 @@ fn list_bytes(
         return;
     }
     if 1 < i {
-        text(out, used, b"\n");
+        text(streams, out, used, b"\n");
     }
     if n <= image.len() {
-        show::put_image(out, used, name, &mut image[0..n], map, notes);
+        show::put_image(streams, out, used, name, &mut image[0..n], map, notes);
     }
 }
 
 // The file that an argument names.
-fn list_file(out: &mut Block, used: &mut usize, i: usize) {
+fn list_file(streams: Streams, out: &mut Block, used: &mut usize, i: usize) {
     let mut buffer = io::buffer();
     let length = os::arg(i, &mut buffer);
     let name = &buffer[..length];
@@ -64,16 +65,16 @@ fn list_file(out: &mut Block, used: &mut usize, i: usize) {
     let mut notes = [0u32; 65535];
     match contents(b"list", name, &mut image) {
         Filled::Failed => {}
-        Filled::Bytes(n) => list_bytes(out, used, i, name, &mut image, n, &mut map, &mut notes),
+        Filled::Bytes(n) => list_bytes(streams, out, used, i, name, &mut image, n, &mut map, &mut notes),
     }
 }
 
 // What is listed of a file is written before the next one is read.
-fn list_files(count: usize, out: &mut Block, used: &mut usize) {
+fn list_files(count: usize, streams: Streams, out: &mut Block, used: &mut usize) {
     let mut i = 1usize;
     while i < count {
-        list_file(out, used, i);
-        flush(out, used);
+        list_file(streams, out, used, i);
+        flush(streams, out, used);
         i += 1;
     }
 }

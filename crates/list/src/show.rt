@@ -12,41 +12,41 @@ use listing::procedure::{Procedure, procedure_of};
 use mcode::{MOST_MODULES, Module, Program};
 
 // The name, the count of bytes, and the count of modules where the image was read.
-fn put_heading(out: &mut Block, used: &mut usize, name: &[u8], bytes: usize, modules: usize) {
-    text(out, used, name);
-    named(out, used, b": ", bytes as u64);
-    text(out, used, b" bytes");
+fn put_heading(streams: Streams, out: &mut Block, used: &mut usize, name: &[u8], bytes: usize, modules: usize) {
+    text(streams, out, used, name);
+    named(streams, out, used, b": ", bytes as u64);
+    text(streams, out, used, b" bytes");
     if 0 < modules {
-        named(out, used, b", modules: ", modules as u64);
+        named(streams, out, used, b", modules: ", modules as u64);
     }
-    text(out, used, b"\n");
+    text(streams, out, used, b"\n");
 }
 
-fn put_procedure(out: &mut Block, used: &mut usize, i: u16, procedure: Procedure) {
-    named(out, used, b"  procedure ", i as u64);
-    named(out, used, b": entry ", procedure.entry as u64);
-    named(out, used, b", parameters ", procedure.params as u64);
-    named(out, used, b", results ", procedure.results as u64);
-    text(out, used, b"\n");
+fn put_procedure(streams: Streams, out: &mut Block, used: &mut usize, i: u16, procedure: Procedure) {
+    named(streams, out, used, b"  procedure ", i as u64);
+    named(streams, out, used, b": entry ", procedure.entry as u64);
+    named(streams, out, used, b", parameters ", procedure.params as u64);
+    named(streams, out, used, b", results ", procedure.results as u64);
+    text(streams, out, used, b"\n");
 }
 
-fn put_procedures(out: &mut Block, used: &mut usize, image: &[u8], m: Module) {
+fn put_procedures(streams: Streams, out: &mut Block, used: &mut usize, image: &[u8], m: Module) {
     let count = depths::rules::proc_count(m);
     let mut i = 0usize;
     while i < count {
         let procedure = procedure_of(image, m, i as u16);
-        put_procedure(out, used, i as u16, procedure);
+        put_procedure(streams, out, used, i as u16, procedure);
         i += 1;
     }
 }
 
-fn put_module_line(out: &mut Block, used: &mut usize, number: usize, m: Module) {
-    named(out, used, b"\nmodule ", number as u64);
-    named(out, used, b": data size ", m.size as u64);
-    named(out, used, b", base ", m.base as u64);
-    named(out, used, b", code length ", m.length as u64);
-    named(out, used, b" from byte ", m.code as u64);
-    text(out, used, b"\n");
+fn put_module_line(streams: Streams, out: &mut Block, used: &mut usize, number: usize, m: Module) {
+    named(streams, out, used, b"\nmodule ", number as u64);
+    named(streams, out, used, b": data size ", m.size as u64);
+    named(streams, out, used, b", base ", m.base as u64);
+    named(streams, out, used, b", code length ", m.length as u64);
+    named(streams, out, used, b" from byte ", m.code as u64);
+    text(streams, out, used, b"\n");
 }
 
 // Notes the place p of module k in the notes of that module's code.
@@ -80,6 +80,7 @@ fn fill(image: &[u8], map: &mut [u32], notes: &mut [u32], k: usize, refused: boo
 
 // The code of module k by its parts of the map and of the notes.
 fn put_part(
+    streams: Streams,
     out: &mut Block,
     used: &mut usize,
     image: &[u8],
@@ -93,10 +94,11 @@ fn put_part(
     requires { (length map.old ≡ m.length) × (length notes.old ≡ m.length) }
 {
     fill(image, map, notes, k, refused, why);
-    put_code(out, used, image, m, map, notes);
+    put_code(streams, out, used, image, m, map, notes);
 }
 
 fn put_module(
+    streams: Streams,
     out: &mut Block,
     used: &mut usize,
     image: &[u8],
@@ -107,9 +109,9 @@ fn put_module(
     refused: bool,
     why: Why,
 ) {
-    put_module_line(out, used, k, m);
-    put_procedures(out, used, image, m);
-    put_columns(out, used);
+    put_module_line(streams, out, used, k, m);
+    put_procedures(streams, out, used, image, m);
+    put_columns(streams, out, used);
     let a = m.code;
     let length = m.length as usize;
     if notes.len() != map.len() {
@@ -123,6 +125,7 @@ fn put_module(
     }
     let e = a + length;
     put_part(
+        streams,
         out,
         used,
         image,
@@ -136,6 +139,7 @@ fn put_module(
 }
 
 fn put_modules(
+    streams: Streams,
     out: &mut Block,
     used: &mut usize,
     image: &[u8],
@@ -151,14 +155,14 @@ fn put_modules(
             return;
         }
         let m = program.modules[k];
-        put_module(out, used, image, map, notes, k, m, refused, why);
+        put_module(streams, out, used, image, map, notes, k, m, refused, why);
         k += 1;
     }
 }
 
 // The refusal, in the place of the modules, and on standard error.
-fn put_refusal(out: &mut Block, used: &mut usize, name: &[u8], number: u16, place: Place) {
-    if flush(out, used) {
+fn put_refusal(streams: Streams, out: &mut Block, used: &mut usize, name: &[u8], number: u16, place: Place) {
+    if flush(streams, out, used) {
         refused_as(STDOUT_FILENO, number, place);
         line_end();
     }
@@ -168,6 +172,7 @@ fn put_refusal(out: &mut Block, used: &mut usize, name: &[u8], number: u16, plac
 // A refusal stands in the place of the modules, but for 13 and 8: there they are shown all the same, as far as the code is reached, with what
 // is wrong.
 pub fn put_image(
+    streams: Streams,
     out: &mut Block,
     used: &mut usize,
     name: &[u8],
@@ -177,16 +182,16 @@ pub fn put_image(
 ) {
     let parsed = image::read_image(image);
     let program = parsed.program;
-    put_heading(out, used, name, image.len(), program.count);
+    put_heading(streams, out, used, name, image.len(), program.count);
     let verdict = loader::load::load(image, map);
     let number = verdict.number;
     if number == 0 {
-        put_modules(out, used, image, map, notes, program, false, Why::Unknown);
+        put_modules(streams, out, used, image, map, notes, program, false, Why::Unknown);
         return;
     }
     let place = fault::found(image, map, number);
-    put_refusal(out, used, name, number, place);
+    put_refusal(streams, out, used, name, number, place);
     if let Place::Code(why) = place {
-        put_modules(out, used, image, map, notes, program, true, why);
+        put_modules(streams, out, used, image, map, notes, program, true, why);
     }
 }

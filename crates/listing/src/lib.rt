@@ -11,3 +11,4 @@ pub mod names;
 pub mod print;
 pub mod procedure;
 pub mod search;
+pub mod streams;

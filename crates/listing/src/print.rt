@@ -6,36 +6,37 @@ use crate::block::{Block, text};
 use crate::bytes::word_of;
 use crate::instruction::{Instruction, Operand, operand_of};
 use crate::names::{name_length, name_of, octal_of};
+use crate::streams::Streams;
 
 const DIGITS: [u8; 16] = *b"0123456789ABCDEF";
 
 // The first n letters.
-pub fn first(out: &mut Block, used: &mut usize, letters: &[u8], n: usize) {
+pub fn first(streams: Streams, out: &mut Block, used: &mut usize, letters: &[u8], n: usize) {
     if n <= letters.len() {
-        text(out, used, &letters[0..n]);
+        text(streams, out, used, &letters[0..n]);
     }
 }
 
 // At most 32 blanks.
-pub fn blanks(out: &mut Block, used: &mut usize, n: usize) {
+pub fn blanks(streams: Streams, out: &mut Block, used: &mut usize, n: usize) {
     let line = [b' '; 32];
-    first(out, used, &line, n);
+    first(streams, out, used, &line, n);
 }
 
 // Blanks up to a width, of which some columns are taken.
-pub fn fill(out: &mut Block, used: &mut usize, taken: usize, width: usize) {
+pub fn fill(streams: Streams, out: &mut Block, used: &mut usize, taken: usize, width: usize) {
     if taken < width {
-        blanks(out, used, width - taken);
+        blanks(streams, out, used, width - taken);
     }
 }
 
 // A number, and how many digits it has.
-pub fn number(out: &mut Block, used: &mut usize, n: u64) -> usize
+pub fn number(streams: Streams, out: &mut Block, used: &mut usize, n: u64) -> usize
     ensures { result ≤ 20 }
 {
     let mut digits = [0u8; 20];
     let count = io::decimal(n, &mut digits);
-    text(out, used, &digits[..count]);
+    text(streams, out, used, &digits[..count]);
     if count <= 20 {
         return count;
     }
@@ -43,80 +44,80 @@ pub fn number(out: &mut Block, used: &mut usize, n: u64) -> usize
 }
 
 // A number at the right end of its column.
-pub fn right(out: &mut Block, used: &mut usize, n: u64, width: usize) {
+pub fn right(streams: Streams, out: &mut Block, used: &mut usize, n: u64, width: usize) {
     let mut digits = [0u8; 20];
     let count = io::decimal(n, &mut digits);
-    fill(out, used, count, width);
-    text(out, used, &digits[..count]);
+    fill(streams, out, used, count, width);
+    text(streams, out, used, &digits[..count]);
 }
 
-pub fn named(out: &mut Block, used: &mut usize, letters: &[u8], n: u64) {
-    text(out, used, letters);
-    number(out, used, n);
+pub fn named(streams: Streams, out: &mut Block, used: &mut usize, letters: &[u8], n: u64) {
+    text(streams, out, used, letters);
+    number(streams, out, used, n);
 }
 
 // A byte as two hexadecimal digits.
-pub fn hex(out: &mut Block, used: &mut usize, byte: u8) {
+pub fn hex(streams: Streams, out: &mut Block, used: &mut usize, byte: u8) {
     let high = (byte / 16) as usize;
     let low = (byte % 16) as usize;
     let both = [DIGITS[high], DIGITS[low]];
-    text(out, used, &both);
+    text(streams, out, used, &both);
 }
 
 // A byte as three octal digits.
-pub fn octal(out: &mut Block, used: &mut usize, byte: u8) {
+pub fn octal(streams: Streams, out: &mut Block, used: &mut usize, byte: u8) {
     let digits = octal_of(byte);
-    text(out, used, &digits);
+    text(streams, out, used, &digits);
 }
 
 // The name of an opcode.
-pub fn name(out: &mut Block, used: &mut usize, op: u8) -> usize
+pub fn name(streams: Streams, out: &mut Block, used: &mut usize, op: u8) -> usize
     ensures { result ≤ 5 }
 {
     let letters = name_of(op);
     let n = name_length(letters);
-    first(out, used, &letters, n);
+    first(streams, out, used, &letters, n);
     n
 }
 
-fn spaced(out: &mut Block, used: &mut usize, n: u64) -> usize
+fn spaced(streams: Streams, out: &mut Block, used: &mut usize, n: u64) -> usize
     ensures { result ≤ 21 }
 {
-    text(out, used, b" ");
-    1 + number(out, used, n)
+    text(streams, out, used, b" ");
+    1 + number(streams, out, used, n)
 }
 
-fn pair(out: &mut Block, used: &mut usize, first: u16, second: u16) -> usize
+fn pair(streams: Streams, out: &mut Block, used: &mut usize, first: u16, second: u16) -> usize
     ensures { result ≤ 42 }
 {
-    let columns = spaced(out, used, first as u64);
-    columns + spaced(out, used, second as u64)
+    let columns = spaced(streams, out, used, first as u64);
+    columns + spaced(streams, out, used, second as u64)
 }
 
-fn operands(out: &mut Block, used: &mut usize, i: Instruction) -> usize
+fn operands(streams: Streams, out: &mut Block, used: &mut usize, i: Instruction) -> usize
     ensures { result ≤ 42 }
 {
     let operand = operand_of(i.op);
     match operand {
         Operand::Nothing => 0,
-        Operand::Byte => spaced(out, used, i.first as u64),
-        Operand::Word => spaced(out, used, word_of(i.first, i.second) as u64),
+        Operand::Byte => spaced(streams, out, used, i.first as u64),
+        Operand::Word => spaced(streams, out, used, word_of(i.first, i.second) as u64),
         Operand::Double => {
             let high = word_of(i.first, i.second);
-            pair(out, used, high, word_of(i.third, i.fourth))
+            pair(streams, out, used, high, word_of(i.third, i.fourth))
         }
-        Operand::Jump => spaced(out, used, i.target as u64),
-        Operand::Global => pair(out, used, i.first as u16, i.second as u16),
-        Operand::Call => spaced(out, used, i.first as u64),
-        Operand::FarCall => pair(out, used, i.first as u16, i.second as u16),
+        Operand::Jump => spaced(streams, out, used, i.target as u64),
+        Operand::Global => pair(streams, out, used, i.first as u16, i.second as u16),
+        Operand::Call => spaced(streams, out, used, i.first as u64),
+        Operand::FarCall => pair(streams, out, used, i.first as u16, i.second as u16),
     }
 }
 
 // A listed instruction with its operands, as LIB 200, or LID 1 65535, the high word first; a jump shows the position that it goes to.
 // Answers how many columns it takes.
-pub fn instruction(out: &mut Block, used: &mut usize, i: Instruction) -> usize
+pub fn instruction(streams: Streams, out: &mut Block, used: &mut usize, i: Instruction) -> usize
     ensures { result ≤ 47 }
 {
-    let columns = name(out, used, i.op);
-    columns + operands(out, used, i)
+    let columns = name(streams, out, used, i.op);
+    columns + operands(streams, out, used, i)
 }

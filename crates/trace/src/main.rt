@@ -39,6 +39,7 @@ fn store_words(chosen: usize, most: usize) -> usize
 
 // The refusal of an image of n bytes: in the place of its trace, and on standard error.
 fn put_refusal(
+    streams: Streams,
     out: &mut Block,
     used: &mut usize,
     name: &[u8],
@@ -49,7 +50,7 @@ fn put_refusal(
 ) {
     if n <= image.len() {
         let place = fault::found(&mut image[0..n], map, number);
-        if flush(out, used) {
+        if flush(streams, out, used) {
             refused_as(STDOUT_FILENO, number, place);
             line_end();
         }
@@ -115,6 +116,7 @@ fn requested(
     limit: u32,
     before: &mut [u16],
     last: &mut [u16],
+    streams: Streams,
     out: &mut Block,
     used: &mut usize,
 ) -> Traced {
@@ -141,6 +143,7 @@ fn requested(
         quiet,
         before,
         last,
+        streams,
         out,
         used,
     );
@@ -160,6 +163,7 @@ fn put_steps(
     inputs: [u16; 16],
     options: Options,
     limit: u32,
+    streams: Streams,
     out: &mut Block,
     used: &mut usize,
 ) {
@@ -168,7 +172,7 @@ fn put_steps(
     let channels: &[u16] = &inputs;
     let mut outputs = [0u16; 16];
     let mut last = [0u16; 16];
-    show::put_columns(out, used);
+    show::put_columns(streams, out, used);
     let ran = traced(
         machine,
         image,
@@ -183,6 +187,7 @@ fn put_steps(
         0,
         before,
         &mut last,
+        streams,
         out,
         used,
     );
@@ -198,10 +203,11 @@ fn put_steps(
         limit,
         before,
         &mut last,
+        streams,
         out,
         used,
     );
-    if flush(out, used) {
+    if flush(streams, out, used) {
         let end = all.ran;
         put_end(end, outputs);
         put_left(options, all.left);
@@ -217,6 +223,7 @@ fn put_run(
     before: &mut [u16],
     options: Options,
     limit: u32,
+    streams: Streams,
     out: &mut Block,
     used: &mut usize,
 ) -> u16 {
@@ -229,7 +236,7 @@ fn put_run(
     let machine = started.machine;
     let inputs = options.inputs;
     put_steps(
-        machine, image, map, store, before, inputs, options, limit, out, used,
+        machine, image, map, store, before, inputs, options, limit, streams, out, used,
     );
     0
 }
@@ -242,6 +249,7 @@ fn put_image(
     before: &mut [u16],
     options: Options,
     limit: u32,
+    streams: Streams,
     out: &mut Block,
     used: &mut usize,
 ) -> u16 {
@@ -259,6 +267,7 @@ fn put_image(
         &mut before[..v],
         options,
         limit,
+        streams,
         out,
         used,
     )
@@ -277,6 +286,7 @@ fn put_bytes(
     before: &mut [u16],
     options: Options,
     limit: u32,
+    streams: Streams,
     out: &mut Block,
     used: &mut usize,
 ) {
@@ -284,8 +294,8 @@ fn put_bytes(
         refusal(b"trace", name, 1, Place::Unknown);
         return;
     }
-    text(out, used, name);
-    text(out, used, b":\n");
+    text(streams, out, used, name);
+    text(streams, out, used, b":\n");
     let mut map = [0u32; 65535];
     let number = put_image(
         first(image, n),
@@ -294,11 +304,12 @@ fn put_bytes(
         before,
         options,
         limit,
+        streams,
         out,
         used,
     );
     if 1 <= number {
-        put_refusal(out, used, name, image, n, &mut map, number);
+        put_refusal(streams, out, used, name, image, n, &mut map, number);
     }
 }
 
@@ -308,6 +319,7 @@ fn put_file(
     before: &mut [u16],
     options: Options,
     limit: u32,
+    streams: Streams,
     out: &mut Block,
     used: &mut usize,
 ) {
@@ -315,7 +327,7 @@ fn put_file(
     match contents(b"trace", name, &mut image) {
         Filled::Failed => {}
         Filled::Bytes(n) => put_bytes(
-            name, &mut image, n, store, before, options, limit, out, used,
+            name, &mut image, n, store, before, options, limit, streams, out, used,
         ),
     }
 }
@@ -328,6 +340,7 @@ fn put_argument(
     before: &mut [u16],
     options: Options,
     limit: u32,
+    streams: Streams,
     out: &mut Block,
     used: &mut usize,
 ) -> bool {
@@ -338,7 +351,7 @@ fn put_argument(
     let n = os::arg(i, &mut word);
     match options::kind(&word[..n]) {
         Argument::File => {
-            put_file(&word[..n], store, before, options, limit, out, used);
+            put_file(&word[..n], store, before, options, limit, streams, out, used);
             false
         }
         _ => !options::has_value(&word[..n]),
@@ -350,6 +363,7 @@ fn put_files(
     before: &mut [u16],
     options: Options,
     limit: u32,
+    streams: Streams,
     out: &mut Block,
     used: &mut usize,
 ) {
@@ -357,7 +371,7 @@ fn put_files(
     let mut is_value = false;
     let mut i = 1usize;
     while i < count {
-        is_value = put_argument(i, is_value, store, before, options, limit, out, used);
+        is_value = put_argument(i, is_value, store, before, options, limit, streams, out, used);
         i += 1;
     }
 }

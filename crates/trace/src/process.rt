@@ -57,37 +57,37 @@ pub fn turn_of(ran: Ran, next: Ran, line: usize, op: u8) -> Turn
 }
 
 // The process that was left, and the one that was entered.
-fn put_processes(out: &mut Block, used: &mut usize, left: u16, entered: u16) {
-    named(out, used, b"        process ", left as u64);
+fn put_processes(streams: Streams, out: &mut Block, used: &mut usize, left: u16, entered: u16) {
+    named(streams, out, used, b"        process ", left as u64);
     if left == entered {
-        text(out, used, b" stays\n");
+        text(streams, out, used, b" stays\n");
         return;
     }
-    named(out, used, b" left, ", entered as u64);
-    text(out, used, b" entered\n");
+    named(streams, out, used, b" left, ", entered as u64);
+    text(streams, out, used, b" entered\n");
 }
 
 // The number of a caught trap, with its words. The words that are saved may lie over the one that has it.
-fn put_trap(out: &mut Block, used: &mut usize, number: u16) {
+fn put_trap(streams: Streams, out: &mut Block, used: &mut usize, number: u16) {
     if !is_trap(number) {
-        text(out, used, b"        trap, its number written over\n");
+        text(streams, out, used, b"        trap, its number written over\n");
         return;
     }
     let letters = stop_letters(number);
-    named(out, used, b"        trap ", number as u64);
-    text(out, used, b": ");
-    first(out, used, &letters, stop_length(number));
-    text(out, used, b"\n");
+    named(streams, out, used, b"        trap ", number as u64);
+    text(streams, out, used, b": ");
+    first(streams, out, used, &letters, stop_length(number));
+    text(streams, out, used, b"\n");
 }
 
 // A change by a line or a caught trap, over the words of the store before it and after it. That of 256 shows in the registers.
-pub fn put_changed(out: &mut Block, used: &mut usize, turn: Turn, words: &[u16], store: &[u16]) {
+pub fn put_changed(streams: Streams, out: &mut Block, used: &mut usize, turn: Turn, words: &[u16], store: &[u16]) {
     if is_caught(turn, words) {
-        put_trap(out, used, word_at(store, turn.p as usize + 6));
-        put_processes(out, used, turn.p, turn.q);
+        put_trap(streams, out, used, word_at(store, turn.p as usize + 6));
+        put_processes(streams, out, used, turn.p, turn.q);
         return;
     }
     if turn.line != 0 {
-        put_processes(out, used, turn.p, turn.q);
+        put_processes(streams, out, used, turn.p, turn.q);
     }
 }

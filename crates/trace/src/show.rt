@@ -9,51 +9,51 @@ use listing::print::{blanks, fill, instruction, named, number, right};
 use listing::search::changed;
 use mcode::{MOST_MODULES, Machine, Program, Registers};
 
-pub fn put_columns(out: &mut Block, used: &mut usize) {
-    text(out, used, b"  step  module    pos  instruction   stack\n");
+pub fn put_columns(streams: Streams, out: &mut Block, used: &mut usize) {
+    text(streams, out, used, b"  step  module    pos  instruction   stack\n");
 }
 
 // Word i of a row.
-fn put_word(out: &mut Block, used: &mut usize, i: usize, word: u16) {
+fn put_word(streams: Streams, out: &mut Block, used: &mut usize, i: usize, word: u16) {
     if 0 < i {
-        text(out, used, b" ");
+        text(streams, out, used, b" ");
     }
-    number(out, used, word as u64);
+    number(streams, out, used, word as u64);
 }
 
 // The words on the operand stack, the top one last.
-fn put_stack(out: &mut Block, used: &mut usize, machine: Machine) {
+fn put_stack(streams: Streams, out: &mut Block, used: &mut usize, machine: Machine) {
     let registers = machine.registers;
     let stack = machine.stack;
     let depth = registers.depth;
-    text(out, used, b"[");
+    text(streams, out, used, b"[");
     let mut i = 0usize;
     while i < 16 {
         if i < depth {
-            put_word(out, used, i, stack[i]);
+            put_word(streams, out, used, i, stack[i]);
         }
         i += 1;
     }
-    text(out, used, b"]");
+    text(streams, out, used, b"]");
 }
 
 // A register, where it changed.
-fn put_register(out: &mut Block, used: &mut usize, letters: &[u8], before: u16, after: u16) {
+fn put_register(streams: Streams, out: &mut Block, used: &mut usize, letters: &[u8], before: u16, after: u16) {
     if before != after {
-        text(out, used, b"        ");
-        named(out, used, letters, before as u64);
-        named(out, used, b" -> ", after as u64);
-        text(out, used, b"\n");
+        text(streams, out, used, b"        ");
+        named(streams, out, used, letters, before as u64);
+        named(streams, out, used, b" -> ", after as u64);
+        text(streams, out, used, b"\n");
     }
 }
 
-fn put_registers(out: &mut Block, used: &mut usize, before: Registers, after: Registers) {
-    put_register(out, used, b"module ", before.unit as u16, after.unit as u16);
-    put_register(out, used, b"L ", before.l.0, after.l.0);
-    put_register(out, used, b"S ", before.s.0, after.s.0);
-    put_register(out, used, b"H ", before.h.0, after.h.0);
-    put_register(out, used, b"P ", before.p.0, after.p.0);
-    put_register(out, used, b"M ", before.mask, after.mask);
+fn put_registers(streams: Streams, out: &mut Block, used: &mut usize, before: Registers, after: Registers) {
+    put_register(streams, out, used, b"module ", before.unit as u16, after.unit as u16);
+    put_register(streams, out, used, b"L ", before.l.0, after.l.0);
+    put_register(streams, out, used, b"S ", before.s.0, after.s.0);
+    put_register(streams, out, used, b"H ", before.h.0, after.h.0);
+    put_register(streams, out, used, b"P ", before.p.0, after.p.0);
+    put_register(streams, out, used, b"M ", before.mask, after.mask);
 }
 
 fn set(words: &mut [u16], i: usize, word: u16) {
@@ -62,41 +62,41 @@ fn set(words: &mut [u16], i: usize, word: u16) {
     }
 }
 
-fn put_change(out: &mut Block, used: &mut usize, before: u16, after: u16) {
-    named(out, used, b": ", before as u64);
-    named(out, used, b" -> ", after as u64);
+fn put_change(streams: Streams, out: &mut Block, used: &mut usize, before: u16, after: u16) {
+    named(streams, out, used, b": ", before as u64);
+    named(streams, out, used, b" -> ", after as u64);
 }
 
 // A word of the store that changed.
-fn put_stored(out: &mut Block, used: &mut usize, i: usize, before: u16, after: u16) {
-    named(out, used, b"        store ", i as u64);
-    put_change(out, used, before, after);
-    text(out, used, b"\n");
+fn put_stored(streams: Streams, out: &mut Block, used: &mut usize, i: usize, before: u16, after: u16) {
+    named(streams, out, used, b"        store ", i as u64);
+    put_change(streams, out, used, before, after);
+    text(streams, out, used, b"\n");
 }
 
 // The words of the store that changed. Afterwards `before` holds them.
-fn put_store(out: &mut Block, used: &mut usize, before: &mut [u16], store: &[u16]) {
+fn put_store(streams: Streams, out: &mut Block, used: &mut usize, before: &mut [u16], store: &[u16]) {
     let mut i = changed(before, store, 0);
     while i < store.len() {
-        put_stored(out, used, i, word_at(before, i), store[i]);
+        put_stored(streams, out, used, i, word_at(before, i), store[i]);
         set(before, i, store[i]);
         i = changed(before, store, i + 1);
     }
 }
 
 // An output that changed, at the margin and with the step that changed it.
-fn put_output(out: &mut Block, used: &mut usize, i: usize, before: u16, after: u16, step: u64) {
-    named(out, used, b"output ", i as u64);
-    put_change(out, used, before, after);
-    named(out, used, b" (step ", step);
-    text(out, used, b")\n");
+fn put_output(streams: Streams, out: &mut Block, used: &mut usize, i: usize, before: u16, after: u16, step: u64) {
+    named(streams, out, used, b"output ", i as u64);
+    put_change(streams, out, used, before, after);
+    named(streams, out, used, b" (step ", step);
+    text(streams, out, used, b")\n");
 }
 
 // The outputs that changed. Afterwards `last` holds them.
-fn put_outputs(out: &mut Block, used: &mut usize, last: &mut [u16], outputs: &[u16], step: u64) {
+fn put_outputs(streams: Streams, out: &mut Block, used: &mut usize, last: &mut [u16], outputs: &[u16], step: u64) {
     let mut i = changed(last, outputs, 0);
     while i < outputs.len() {
-        put_output(out, used, i, word_at(last, i), outputs[i], step);
+        put_output(streams, out, used, i, word_at(last, i), outputs[i], step);
         set(last, i, outputs[i]);
         i = changed(last, outputs, i + 1);
     }
@@ -104,6 +104,7 @@ fn put_outputs(out: &mut Block, used: &mut usize, last: &mut [u16], outputs: &[u
 
 // The instruction. One that is wider than its column, as LID 65535 65535, has one blank behind it.
 fn put_instruction(
+    streams: Streams,
     out: &mut Block,
     used: &mut usize,
     image: &[u8],
@@ -114,23 +115,24 @@ fn put_instruction(
     if unit < MOST_MODULES {
         let m = program.modules[unit];
         let i = instruction_at(image, m, registers.pc.0);
-        let columns = instruction(out, used, i);
-        fill(out, used, columns, 13);
-        blanks(out, used, 1);
+        let columns = instruction(streams, out, used, i);
+        fill(streams, out, used, columns, 13);
+        blanks(streams, out, used, 1);
     }
 }
 
 // The line that is taken in the place of the instruction.
-fn put_line(out: &mut Block, used: &mut usize, line: usize) {
-    named(out, used, b"line ", line as u64);
+fn put_line(streams: Streams, out: &mut Block, used: &mut usize, line: usize) {
+    named(streams, out, used, b"line ", line as u64);
     if line < 10 {
-        blanks(out, used, 1);
+        blanks(streams, out, used, 1);
     }
-    blanks(out, used, 7);
+    blanks(streams, out, used, 7);
 }
 
 // Module, position, and the instruction or the line.
 fn put_place(
+    streams: Streams,
     out: &mut Block,
     used: &mut usize,
     image: &[u8],
@@ -138,18 +140,19 @@ fn put_place(
     registers: Registers,
     line: usize,
 ) {
-    right(out, used, registers.unit as u64, 8);
-    right(out, used, registers.pc.0 as u64, 7);
-    blanks(out, used, 2);
+    right(streams, out, used, registers.unit as u64, 8);
+    right(streams, out, used, registers.pc.0 as u64, 7);
+    blanks(streams, out, used, 2);
     if line == 0 {
-        put_instruction(out, used, image, program, registers);
+        put_instruction(streams, out, used, image, program, registers);
         return;
     }
-    put_line(out, used, line);
+    put_line(streams, out, used, line);
 }
 
 // The instruction at which the run stops, or the line, is no step: it changes nothing.
 fn put_stopping(
+    streams: Streams,
     out: &mut Block,
     used: &mut usize,
     image: &[u8],
@@ -158,14 +161,15 @@ fn put_stopping(
     line: usize,
 ) {
     let registers = machine.registers;
-    text(out, used, b"     -");
-    put_place(out, used, image, program, registers, line);
-    put_stack(out, used, machine);
-    text(out, used, b"\n");
+    text(streams, out, used, b"     -");
+    put_place(streams, out, used, image, program, registers, line);
+    put_stack(streams, out, used, machine);
+    text(streams, out, used, b"\n");
 }
 
 // A step: its line, and below it what it changed.
 fn put_done(
+    streams: Streams,
     out: &mut Block,
     used: &mut usize,
     ran: Ran,
@@ -181,16 +185,16 @@ fn put_done(
     let after = next.machine;
     let registers = before.registers;
     let reached = after.registers;
-    right(out, used, step, 6);
-    put_place(out, used, image, program, registers, line);
-    put_stack(out, used, before);
-    text(out, used, b" -> ");
-    put_stack(out, used, after);
-    text(out, used, b"\n");
+    right(streams, out, used, step, 6);
+    put_place(streams, out, used, image, program, registers, line);
+    put_stack(streams, out, used, before);
+    text(streams, out, used, b" -> ");
+    put_stack(streams, out, used, after);
+    text(streams, out, used, b"\n");
     let turn = turn_of(ran, next, line, opcode_at(image, program, registers));
-    put_changed(out, used, turn, words, store);
-    put_registers(out, used, registers, reached);
-    put_store(out, used, words, store);
+    put_changed(streams, out, used, turn, words, store);
+    put_registers(streams, out, used, registers, reached);
+    put_store(streams, out, used, words, store);
 }
 
 // The line that is taken before the next instruction, or 0, over the words of the store.
@@ -202,6 +206,7 @@ fn next_line(ran: Ran, words: &[u16]) -> usize {
 
 // Beyond the limit no step is listed.
 fn put_listed(
+    streams: Streams,
     out: &mut Block,
     used: &mut usize,
     ran: Ran,
@@ -219,16 +224,17 @@ fn put_listed(
     let line = next_line(ran, words);
     if next.count == ran.count {
         let before = ran.machine;
-        put_stopping(out, used, image, program, before, line);
+        put_stopping(streams, out, used, image, program, before, line);
         return;
     }
     put_done(
-        out, used, ran, next, program, image, step, line, words, store,
+        streams, out, used, ran, next, program, image, step, line, words, store,
     );
 }
 
 // A turn of the run, from `ran` to `next`; `earlier` steps were made before the run.
 pub fn put_step(
+    streams: Streams,
     out: &mut Block,
     used: &mut usize,
     ran: Ran,
@@ -244,7 +250,7 @@ pub fn put_step(
 ) {
     let step = earlier as u64 + next.count as u64;
     put_listed(
-        out, used, ran, next, program, image, limit, step, words, store,
+        streams, out, used, ran, next, program, image, limit, step, words, store,
     );
-    put_outputs(out, used, last, outputs, step);
+    put_outputs(streams, out, used, last, outputs, step);
 }

@@ -59,6 +59,7 @@ fn turns(
     earlier: u32,
     before: &mut [u16],
     last: &mut [u16],
+    streams: Streams,
     out: &mut Block,
     used: &mut usize,
 ) -> Done
@@ -69,7 +70,7 @@ fn turns(
     while done < n {
         let next = more(ran, image, map, store, outputs, inputs, 1);
         put_step(
-            out, used, ran, next, program, image, limit, earlier, before, store, last, outputs,
+            streams, out, used, ran, next, program, image, limit, earlier, before, store, last, outputs,
         );
         ran = next;
         done += 1;
@@ -97,6 +98,7 @@ pub fn traced(
     earlier: u32,
     before: &mut [u16],
     last: &mut [u16],
+    streams: Streams,
     out: &mut Block,
     used: &mut usize,
 ) -> Ran
@@ -104,7 +106,7 @@ pub fn traced(
 {
     let t = turns(
         machine, image, map, store, outputs, inputs, n, requests, program, limit, earlier, before,
-        last, out, used,
+        last, streams, out, used,
     );
     let ran = t.ran;
     let done = t.done;

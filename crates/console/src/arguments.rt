@@ -5,6 +5,7 @@ ghost use Rattle.console.specs.Asks.{nothing_asked, goes_on, ends_with, one_more
 
 use crate::options::{Argument, Choice, Options};
 use crate::{options, print};
+use listing::streams::Streams;
 
 // The option whose value comes next.
 #[derive(Clone, Copy)]
@@ -73,7 +74,7 @@ fn one_more(files: usize) -> usize
 }
 
 // A file, or an option by its name.
-fn with_name(program: &[u8], asked: Asked, text: &[u8]) -> Asked
+fn with_name(streams: Streams, program: &[u8], asked: Asked, text: &[u8]) -> Asked
     ensures { result ≡ name_says asked text.now }
 {
     let options = asked.options;
@@ -87,7 +88,12 @@ fn with_name(program: &[u8], asked: Asked, text: &[u8]) -> Asked
         Argument::Line => going_on(options, files, Awaited::Line),
         Argument::After => going_on(options, files, Awaited::After),
         Argument::Unknown => {
-            print::complaint(program, text, b"no such option (--help lists them)");
+            print::complaint(
+                streams,
+                program,
+                text,
+                b"no such option (--help lists them)",
+            );
             ended(asked, false)
         }
         Argument::File => going_on(options, one_more(files), Awaited::Nothing),
@@ -109,11 +115,18 @@ fn is_bad(choice: Choice) -> bool
 }
 
 // The value of an option, which takes what `allowed` says.
-fn with_value(program: &[u8], asked: Asked, text: &[u8], choice: Choice, allowed: &[u8]) -> Asked
+fn with_value(
+    streams: Streams,
+    program: &[u8],
+    asked: Asked,
+    text: &[u8],
+    choice: Choice,
+    allowed: &[u8],
+) -> Asked
     ensures { result ≡ with_value asked choice }
 {
     if is_bad(choice) {
-        print::complaint(program, text, allowed);
+        print::complaint(streams, program, text, allowed);
         return ended(asked, false);
     }
     let before = asked.options;
@@ -122,13 +135,14 @@ fn with_value(program: &[u8], asked: Asked, text: &[u8], choice: Choice, allowed
 }
 
 // The value of the option that awaits one.
-fn with_awaited(program: &[u8], asked: Asked, text: &[u8]) -> Asked
+fn with_awaited(streams: Streams, program: &[u8], asked: Asked, text: &[u8]) -> Asked
     ensures { result ≡ value_says asked text.now }
 {
     let awaited = asked.awaited;
     match awaited {
         Awaited::Nothing => asked,
         Awaited::Steps => with_value(
+            streams,
             program,
             asked,
             text,
@@ -136,6 +150,7 @@ fn with_awaited(program: &[u8], asked: Asked, text: &[u8]) -> Asked
             b"--steps takes a number from 0 to 4294967295",
         ),
         Awaited::Store => with_value(
+            streams,
             program,
             asked,
             text,
@@ -143,6 +158,7 @@ fn with_awaited(program: &[u8], asked: Asked, text: &[u8]) -> Asked
             b"--store takes a number from 0 to 65536",
         ),
         Awaited::Input => with_value(
+            streams,
             program,
             asked,
             text,
@@ -150,6 +166,7 @@ fn with_awaited(program: &[u8], asked: Asked, text: &[u8]) -> Asked
             b"--input takes CH=VALUE, a channel from 0 to 15 and a value from 0 to 65535",
         ),
         Awaited::Requests => with_value(
+            streams,
             program,
             asked,
             text,
@@ -157,6 +174,7 @@ fn with_awaited(program: &[u8], asked: Asked, text: &[u8]) -> Asked
             b"--requests takes a number from 0 to 65535",
         ),
         Awaited::Line => with_value(
+            streams,
             program,
             asked,
             text,
@@ -164,6 +182,7 @@ fn with_awaited(program: &[u8], asked: Asked, text: &[u8]) -> Asked
             b"--line takes a line from 8 to 15",
         ),
         Awaited::After => with_value(
+            streams,
             program,
             asked,
             text,
@@ -174,12 +193,12 @@ fn with_awaited(program: &[u8], asked: Asked, text: &[u8]) -> Asked
 }
 
 // A file, or an option, with its value where that stands in the same argument.
-fn with_word(program: &[u8], asked: Asked, text: &[u8]) -> Asked
+fn with_word(streams: Streams, program: &[u8], asked: Asked, text: &[u8]) -> Asked
     ensures { result ≡ word_says asked text.now }
 {
-    let named = with_name(program, asked, text);
+    let named = with_name(streams, program, asked, text);
     if options::has_value(text) {
-        return with_awaited(program, named, options::value(text));
+        return with_awaited(streams, program, named, options::value(text));
     }
     named
 }
@@ -201,17 +220,17 @@ pub fn awaits_value(asked: Asked) -> bool
 }
 
 // One argument more.
-pub fn with_text(program: &[u8], asked: Asked, text: &[u8]) -> Asked
+pub fn with_text(streams: Streams, program: &[u8], asked: Asked, text: &[u8]) -> Asked
     ensures { result ≡ text_says asked text.now }
 {
     if awaits_value(asked) {
-        return with_awaited(program, asked, text);
+        return with_awaited(streams, program, asked, text);
     }
-    with_word(program, asked, text)
+    with_word(streams, program, asked, text)
 }
 
 // After the last argument: no option may still await its value.
-pub fn whole(program: &[u8], asked: Asked) -> Asked
+pub fn whole(streams: Streams, program: &[u8], asked: Asked) -> Asked
     ensures { result ≡ whole_of asked }
 {
     let awaited = asked.awaited;
@@ -219,6 +238,7 @@ pub fn whole(program: &[u8], asked: Asked) -> Asked
         Awaited::Nothing => asked,
         Awaited::Steps => {
             print::complaint(
+                streams,
                 program,
                 b"--steps",
                 b"a number from 0 to 4294967295 must follow",
@@ -226,11 +246,17 @@ pub fn whole(program: &[u8], asked: Asked) -> Asked
             ended(asked, false)
         }
         Awaited::Store => {
-            print::complaint(program, b"--store", b"a number from 0 to 65536 must follow");
+            print::complaint(
+                streams,
+                program,
+                b"--store",
+                b"a number from 0 to 65536 must follow",
+            );
             ended(asked, false)
         }
         Awaited::Input => {
             print::complaint(
+                streams,
                 program,
                 b"--input",
                 b"CH=VALUE must follow (channel 0 to 15, value 0 to 65535)",
@@ -239,6 +265,7 @@ pub fn whole(program: &[u8], asked: Asked) -> Asked
         }
         Awaited::Requests => {
             print::complaint(
+                streams,
                 program,
                 b"--requests",
                 b"a number from 0 to 65535 must follow",
@@ -246,11 +273,17 @@ pub fn whole(program: &[u8], asked: Asked) -> Asked
             ended(asked, false)
         }
         Awaited::Line => {
-            print::complaint(program, b"--line", b"a line from 8 to 15 must follow");
+            print::complaint(
+                streams,
+                program,
+                b"--line",
+                b"a line from 8 to 15 must follow",
+            );
             ended(asked, false)
         }
         Awaited::After => {
             print::complaint(
+                streams,
                 program,
                 b"--after",
                 b"a number from 0 to 4294967295 must follow",

@@ -1,11 +1,15 @@
 // Files to read from, and standard input.
-ghost use Rattle.std.specs.Prelude.{length};
+ghost use Rattle.std.specs.Prelude.{length, IfOk};
 ghost use Rattle.console.specs.Counted.{Within};
+ghost use Rattle.console.specs.declared.files.Filled.TheVariants.{Bytes};
 
 use crate::print;
-use libc::STDIN_FILENO;
+use listing::streams::Streams;
+use std::io::Read;
+use std::rt::Files;
+use std::{fs, io, str};
 
-// How many bytes were read, or that a read failed (`os::errno` says why).
+// How many bytes were read, or that a read failed.
 #[derive(Clone, Copy)]
 pub enum Filled {
     Bytes(usize),
@@ -13,63 +17,78 @@ pub enum Filled {
 }
 
 // One read.
-fn some(fd: i32, part: &mut [u8]) -> Filled
-    ensures { Within result (length part.old) }
+fn some(from: &mut impl Read, part: &mut [u8]) -> io::Result<usize>
+    ensures { IfOk result (λ n. Within (Bytes n) (length part.old)) }
 {
-    let got = libc::read(fd, part);
-    if got < 0 {
-        return Filled::Failed;
-    }
-    Filled::Bytes(io::count(got, part))
+    from.read(part)
 }
 
 // Reads until the buffer is full or the input ends.
-pub fn fill(fd: i32, buffer: &mut [u8]) -> Filled
-    ensures { Within result (length buffer.old) }
+pub fn fill(from: &mut impl Read, buffer: &mut [u8]) -> io::Result<usize>
+    ensures { IfOk result (λ n. Within (Bytes n) (length buffer.old)) }
 {
     let mut done: usize = 0;
     while done < buffer.len() {
-        match some(fd, &mut buffer[done..]) {
-            Filled::Bytes(more) => {
-                if more == 0 {
-                    return Filled::Bytes(done);
-                }
-                done += more;
-            }
-            Filled::Failed => {
-                return Filled::Failed;
-            }
+        let more = some(from, &mut buffer[done..])?;
+        if more == 0 {
+            return Ok(done);
         }
+        done += more;
     }
-    Filled::Bytes(done)
+    Ok(done)
 }
 
-// Reads from the descriptor into the buffer. Where a read fails, a line on standard error says why, of what the caller names it.
-pub fn read_from(program: &[u8], name: &[u8], fd: i32, buffer: &mut [u8]) -> Filled
+// Reads into the buffer. Where a read fails, a line on standard error says why, of what the caller names it.
+pub fn read_from(
+    streams: Streams,
+    program: &[u8],
+    name: &[u8],
+    from: &mut impl Read,
+    buffer: &mut [u8],
+) -> Filled
     ensures { Within result (length buffer.old) }
 {
-    let got = fill(fd, buffer);
-    if let Filled::Failed = got {
-        print::unreadable(program, name);
+    match fill(from, buffer) {
+        Ok(n) => Filled::Bytes(n),
+        Err(error) => {
+            print::unreadable(streams, program, name, error);
+            Filled::Failed
+        }
     }
-    got
+}
+
+// Opens the file for reading. A name that is not UTF-8 opens none.
+fn open<R: Files>(rt: &R, name: &[u8]) -> io::Result<R::File> {
+    match str::from_utf8(name) {
+        Ok(path) => fs::open(rt, path),
+        Err(_) => Err(io::Error::new(io::ErrorKind::InvalidInput, "The file's name is not UTF-8")),
+    }
 }
 
 // Reads the file into the buffer. Where it cannot be read, a line on standard error says why. `-` is standard input, which stays
 // open. A file that was opened is closed, also where its descriptor is 0, as it is where standard input was closed: a later `-` then
 // finds no file there.
-pub fn contents(program: &[u8], name: &[u8], buffer: &mut [u8]) -> Filled
+pub fn contents(
+    rt: &impl Files,
+    streams: Streams,
+    program: &[u8],
+    name: &[u8],
+    buffer: &mut [u8],
+) -> Filled
     ensures { Within result (length buffer.old) }
 {
-    if check::same(name, b"-") {
-        return read_from(program, name, STDIN_FILENO, buffer);
+    if name == b"-".as_slice() {
+        let mut input = streams.input;
+        return read_from(streams, program, name, &mut input, buffer);
     }
-    let fd = os::open_read(name);
-    if fd < 0 {
-        print::unreadable(program, name);
-        return Filled::Failed;
+    match open(rt, name) {
+        Ok(file) => {
+            let mut opened = file;
+            read_from(streams, program, name, &mut opened, buffer)
+        }
+        Err(error) => {
+            print::unreadable(streams, program, name, error);
+            Filled::Failed
+        }
     }
-    let got = read_from(program, name, fd, buffer);
-    libc::close(fd);
-    got
 }

@@ -8,6 +8,7 @@ pub mod caught;
 pub mod code;
 pub mod fault;
 pub mod files;
+pub mod given;
 pub mod number;
 pub mod options;
 pub mod plain;

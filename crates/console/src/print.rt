@@ -6,72 +6,73 @@ use crate::caught::Caught;
 use crate::code::put_why;
 use crate::words;
 use explain::Why;
-use libc::{STDERR_FILENO, STDOUT_FILENO};
+use listing::streams::{Streams, fail, write_all};
 use mcode::{Machine, Stop};
+use std::io;
 
 // A label and a number.
-pub fn number(fd: i32, label: &[u8], n: u64) {
-    io::write_all(fd, label);
-    io::print_decimal(fd, n);
+pub fn number(to: &impl Print, label: &[u8], n: u64) {
+    write_all(to, label);
+    let _written = to.print(n);
 }
 
 // The end of a line of standard output. Where it cannot be written, a line on standard error says why.
-pub fn line_end() {
-    if !io::write_all(STDOUT_FILENO, b"\n") {
-        os::fail(b"standard output");
+pub fn line_end(streams: Streams) {
+    if let Err(error) = streams.output.write_all(b"\n") {
+        fail(streams, b"standard output", error);
     }
 }
 
 // `stop .. code .. steps ..`, with no line end.
-pub fn stopped(stop: Stop, count: u32) {
-    number(STDOUT_FILENO, b"stop ", mcode::stop_number(stop) as u64);
-    number(STDOUT_FILENO, b" code ", mcode::stop_code(stop) as u64);
-    number(STDOUT_FILENO, b" steps ", count as u64);
+pub fn stopped(streams: Streams, stop: Stop, count: u32) {
+    number(&streams.output, b"stop ", mcode::stop_number(stop) as u64);
+    number(&streams.output, b" code ", mcode::stop_code(stop) as u64);
+    number(&streams.output, b" steps ", count as u64);
 }
 
 // ` module .. pc .. depth ..`, with no line end.
-pub fn standing(machine: Machine) {
+pub fn standing(streams: Streams, machine: Machine) {
     let registers = machine.registers;
-    number(STDOUT_FILENO, b" module ", registers.unit as u64);
-    number(STDOUT_FILENO, b" pc ", registers.pc.0 as u64);
-    number(STDOUT_FILENO, b" depth ", registers.depth as u64);
+    number(&streams.output, b" module ", registers.unit as u64);
+    number(&streams.output, b" pc ", registers.pc.0 as u64);
+    number(&streams.output, b" depth ", registers.depth as u64);
 }
 
 // The line of the 16 outputs.
-pub fn outputs(words: [u16; 16]) {
-    number(STDOUT_FILENO, b"", words[0] as u64);
+pub fn outputs(streams: Streams, words: [u16; 16]) {
+    number(&streams.output, b"", words[0] as u64);
     let mut i = 1usize;
     while i < 16 {
-        number(STDOUT_FILENO, b" ", words[i] as u64);
+        number(&streams.output, b" ", words[i] as u64);
         i += 1;
     }
-    line_end();
+    line_end(streams);
 }
 
 // The two lines of a reading.
-pub fn reading(stop: Stop, count: u32, machine: Machine, words: [u16; 16]) {
-    stopped(stop, count);
-    standing(machine);
-    line_end();
-    outputs(words);
+pub fn reading(streams: Streams, stop: Stop, count: u32, machine: Machine, words: [u16; 16]) {
+    stopped(streams, stop, count);
+    standing(streams, machine);
+    line_end(streams);
+    outputs(streams, words);
 }
 
 // The third line of a reading: what is left of the requests.
-pub fn requests_left(requests: u16) {
-    number(STDOUT_FILENO, b"requests ", requests as u64);
-    line_end();
+pub fn requests_left(streams: Streams, requests: u16) {
+    number(&streams.output, b"requests ", requests as u64);
+    line_end(streams);
 }
 
 // The line of a reading where the store tells of a caught trap.
-pub fn put_caught(caught: Caught) {
+pub fn put_caught(streams: Streams, caught: Caught) {
     if caught.number == 0 {
         return;
     }
-    number(STDOUT_FILENO, b"caught ", caught.number as u64);
-    number(STDOUT_FILENO, b" process ", caught.process as u64);
-    number(STDOUT_FILENO, b" module ", caught.unit as u64);
-    number(STDOUT_FILENO, b" pc ", caught.pc as u64);
-    line_end();
+    number(&streams.output, b"caught ", caught.number as u64);
+    number(&streams.output, b" process ", caught.process as u64);
+    number(&streams.output, b" module ", caught.unit as u64);
+    number(&streams.output, b" pc ", caught.pc as u64);
+    line_end(streams);
 }
 
 // Whether bit i stands in a word, which has 16.
@@ -85,31 +86,32 @@ pub fn has_bit(word: u16, i: usize) -> bool
 }
 
 // The channels of a word, each with what it holds, behind a label; no line where there is none.
-fn put_channels(label: &[u8], word: u16, inputs: [u16; 16]) {
+fn put_channels(streams: Streams, label: &[u8], word: u16, inputs: [u16; 16]) {
     if word == 0 {
         return;
     }
-    io::write_all(STDOUT_FILENO, label);
+    write_all(&streams.output, label);
     let mut i = 0usize;
     while i < 16 {
         if has_bit(word, i) {
-            number(STDOUT_FILENO, b" ", i as u64);
-            number(STDOUT_FILENO, b"=", inputs[i] as u64);
+            number(&streams.output, b" ", i as u64);
+            number(&streams.output, b"=", inputs[i] as u64);
         }
         i += 1;
     }
-    line_end();
+    line_end(streams);
 }
 
 // Which inputs a reading rested on, of those given and of those left at 0.
-pub fn rests_on(channels: u16, given: u16, inputs: [u16; 16]) {
+pub fn rests_on(streams: Streams, channels: u16, given: u16, inputs: [u16; 16]) {
     if channels == 0 {
-        io::write_all(STDOUT_FILENO, b"rests on no inputs");
-        line_end();
+        write_all(&streams.output, b"rests on no inputs");
+        line_end(streams);
         return;
     }
-    put_channels(b"rests on inputs given:", channels & given, inputs);
+    put_channels(streams, b"rests on inputs given:", channels & given, inputs);
     put_channels(
+        streams,
         b"rests on a guess, inputs not given:",
         channels & !given,
         inputs,
@@ -117,9 +119,9 @@ pub fn rests_on(channels: u16, given: u16, inputs: [u16; 16]) {
 }
 
 // The one line of a refusal.
-pub fn refused(refusal: u16) {
-    number(STDOUT_FILENO, b"refused ", refusal as u64);
-    line_end();
+pub fn refused(streams: Streams, refusal: u16) {
+    number(&streams.output, b"refused ", refusal as u64);
+    line_end(streams);
 }
 
 // Where a refusal lies: unknown, at a byte of the image, in a module at a byte of the image, or in the code of a module.
@@ -131,62 +133,62 @@ pub enum Place {
     Code(Why),
 }
 
-fn put_place(fd: i32, place: Place) {
+fn put_place(to: &impl Print, place: Place) {
     match place {
         Place::Unknown => {}
         Place::Byte(byte) => {
-            number(fd, b" (byte ", byte as u64);
-            io::write_all(fd, b")");
+            number(to, b" (byte ", byte as u64);
+            write_all(to, b")");
         }
         Place::Inside(unit, byte) => {
-            number(fd, b" (module ", unit as u64);
-            number(fd, b", byte ", byte as u64);
-            io::write_all(fd, b")");
+            number(to, b" (module ", unit as u64);
+            number(to, b", byte ", byte as u64);
+            write_all(to, b")");
         }
-        Place::Code(why) => put_why(fd, why),
+        Place::Code(why) => put_why(to, why),
     }
 }
 
 // `refused N: WORDS (PLACE)`, with no line end.
-pub fn refused_as(fd: i32, refusal: u16, place: Place) {
-    number(fd, b"refused ", refusal as u64);
-    io::write_all(fd, b": ");
-    words::refusal(fd, refusal);
-    put_place(fd, place);
+pub fn refused_as(to: &impl Print, refusal: u16, place: Place) {
+    number(to, b"refused ", refusal as u64);
+    write_all(to, b": ");
+    words::refusal(to, refusal);
+    put_place(to, place);
 }
 
 // On standard error, `PROGRAM: SUBJECT: `, with which a line there begins.
-fn head(program: &[u8], subject: &[u8]) {
-    io::write_all(STDERR_FILENO, program);
-    io::write_all(STDERR_FILENO, b": ");
-    io::write_all(STDERR_FILENO, subject);
-    io::write_all(STDERR_FILENO, b": ");
+fn head(streams: Streams, program: &[u8], subject: &[u8]) {
+    write_all(&streams.error, program);
+    write_all(&streams.error, b": ");
+    write_all(&streams.error, subject);
+    write_all(&streams.error, b": ");
 }
 
 // On standard error, `PROGRAM: FILE: refused N: WORDS (PLACE)`.
-pub fn refusal(program: &[u8], file: &[u8], refusal: u16, place: Place) {
-    head(program, file);
-    refused_as(STDERR_FILENO, refusal, place);
-    io::write_all(STDERR_FILENO, b"\n");
+pub fn refusal(streams: Streams, program: &[u8], file: &[u8], refusal: u16, place: Place) {
+    head(streams, program, file);
+    refused_as(&streams.error, refusal, place);
+    write_all(&streams.error, b"\n");
 }
 
 // On standard error, `PROGRAM: ARGUMENT: what is allowed`.
-pub fn complaint(program: &[u8], argument: &[u8], allowed: &[u8]) {
-    head(program, argument);
-    io::write_all(STDERR_FILENO, allowed);
-    io::write_all(STDERR_FILENO, b"\n");
+pub fn complaint(streams: Streams, program: &[u8], argument: &[u8], allowed: &[u8]) {
+    head(streams, program, argument);
+    write_all(&streams.error, allowed);
+    write_all(&streams.error, b"\n");
 }
 
 // On standard error, that argument i is longer than the buffer in which arguments are read.
-pub fn too_long(program: &[u8], i: usize) {
-    io::write_all(STDERR_FILENO, program);
-    number(STDERR_FILENO, b": argument ", i as u64);
-    io::write_all(STDERR_FILENO, b": longer than 4096 bytes\n");
+pub fn too_long(streams: Streams, program: &[u8], i: usize) {
+    write_all(&streams.error, program);
+    number(&streams.error, b": argument ", i as u64);
+    write_all(&streams.error, b": longer than 4096 bytes\n");
 }
 
-// On standard error, `PROGRAM: FILE: the system's reason`, just after a call that failed.
-pub fn unreadable(program: &[u8], file: &[u8]) {
-    io::write_all(STDERR_FILENO, program);
-    io::write_all(STDERR_FILENO, b": ");
-    os::fail(file);
+// On standard error, `PROGRAM: FILE: the system's reason`, with the error of the call that failed.
+pub fn unreadable(streams: Streams, program: &[u8], file: &[u8], error: io::Error) {
+    write_all(&streams.error, program);
+    write_all(&streams.error, b": ");
+    fail(streams, file, error);
 }

@@ -1,34 +1,35 @@
-// The words of the paper for each refusal and each stop. What writes them answers as `io::write_all` does.
+// The words of the paper for each refusal and each stop. What writes them answers whether all could be written.
 ghost use Rattle.std.specs.Prelude.{◌≤◌};
 
+use listing::streams::write_all;
 use mcode::MOST_MODULES;
 
 // Refusal 2, with the number of modules that an image has at most.
-fn module_count(fd: i32) -> bool {
-    if io::write_all(fd, b"module count 0 or over ") {
-        return io::print_decimal(fd, MOST_MODULES as u64);
+fn module_count(to: &impl Print) -> bool {
+    if write_all(to, b"module count 0 or over ") {
+        return to.print(MOST_MODULES as u64).is_ok();
     }
     false
 }
 
 // A refusal, 1 to 14.
-pub fn refusal(fd: i32, number: u16) -> bool {
+pub fn refusal(to: &impl Print, number: u16) -> bool {
     match number {
-        1 => io::write_all(fd, b"image of 0 or over 65,535 bytes"),
-        2 => module_count(fd),
-        3 => io::write_all(fd, b"image ends inside a part"),
-        4 => io::write_all(fd, b"bytes after the last module"),
-        5 => io::write_all(fd, b"bit 3 to 7 of a bit map"),
-        6 => io::write_all(fd, b"a field out of range"),
-        7 => io::write_all(fd, b"map shorter than image"),
-        8 => io::write_all(fd, b"no depths fit the code, which is whole"),
-        9 => io::write_all(fd, b"W below Z + 36 or over 65,535"),
-        10 => io::write_all(fd, b"inputs or outputs not 16 words"),
-        11 => io::write_all(fd, b"not a machine"),
-        12 => io::write_all(fd, b"map does not fit"),
-        13 => io::write_all(fd, b"the code is not whole"),
-        14 => io::write_all(fd, b"output shorter than the form"),
-        _ => io::write_all(fd, b"no such refusal"),
+        1 => write_all(to, b"image of 0 or over 65,535 bytes"),
+        2 => module_count(to),
+        3 => write_all(to, b"image ends inside a part"),
+        4 => write_all(to, b"bytes after the last module"),
+        5 => write_all(to, b"bit 3 to 7 of a bit map"),
+        6 => write_all(to, b"a field out of range"),
+        7 => write_all(to, b"map shorter than image"),
+        8 => write_all(to, b"no depths fit the code, which is whole"),
+        9 => write_all(to, b"W below Z + 36 or over 65,535"),
+        10 => write_all(to, b"inputs or outputs not 16 words"),
+        11 => write_all(to, b"not a machine"),
+        12 => write_all(to, b"map does not fit"),
+        13 => write_all(to, b"the code is not whole"),
+        14 => write_all(to, b"output shorter than the form"),
+        _ => write_all(to, b"no such refusal"),
     }
 }
 
@@ -71,15 +72,15 @@ pub fn stop_length(number: u16) -> usize
 }
 
 // The first n letters.
-pub fn put_letters(fd: i32, letters: &[u8], n: usize) -> bool {
+pub fn put_letters(to: &impl Print, letters: &[u8], n: usize) -> bool {
     if n <= letters.len() {
-        return io::write_all(fd, &letters[0..n]);
+        return write_all(to, &letters[0..n]);
     }
     false
 }
 
 // A stop, 30 to 40.
-pub fn stop(fd: i32, number: u16) -> bool {
+pub fn stop(to: &impl Print, number: u16) -> bool {
     let letters = stop_letters(number);
-    put_letters(fd, &letters, stop_length(number))
+    put_letters(to, &letters, stop_length(number))
 }

@@ -7,11 +7,11 @@
 use console::files::Filled;
 use console::{files, print};
 use in_place::reading::reading;
-use libc::STDIN_FILENO;
+use listing::streams::Streams;
 use mcode::Ending;
 
 // The reading of an image.
-fn put_reading(image: &[u8]) {
+fn put_reading(streams: Streams, image: &[u8]) {
     let mut map = [0u32; 16384];
     let mut store = [0u16; 4096];
     let mut outputs = [0u16; 16];
@@ -20,21 +20,27 @@ fn put_reading(image: &[u8]) {
     let ending = ran.ending;
     match ending {
         Ending::Refused(number) => {
-            print::refused(number);
+            print::refused(streams, number);
         }
         Ending::Stopped(stop) => {
             let machine = ran.machine;
-            print::reading(stop, ran.count, machine, outputs);
+            print::reading(streams, stop, ran.count, machine, outputs);
         }
     }
 }
 
-fn main() {
+fn main(rt: HostRuntime) {
+    let streams = Streams {
+        input: rt.stdin(),
+        output: rt.stdout(),
+        error: rt.stderr(),
+    };
+    let mut input = streams.input;
     let mut image = [0u8; 65536];
-    match files::read_from(b"desk", b"standard input", STDIN_FILENO, &mut image) {
+    match files::read_from(streams, b"desk", b"standard input", &mut input, &mut image) {
         Filled::Failed => {}
         Filled::Bytes(n) => {
-            put_reading(&image[..n]);
+            put_reading(streams, &image[..n]);
         }
     }
 }

@@ -9,9 +9,9 @@ pub struct Streams {
     pub error: Stderr,
 }
 
-// Writes all of the bytes, or as many as can be written: an error is let go.
-pub fn put(to: &impl Print, bytes: &[u8]) {
-    let _written = Print::write_all(to, bytes);
+// Answers whether all of the bytes could be written.
+pub fn write_all(to: &impl Print, bytes: &[u8]) -> bool {
+    Print::write_all(to, bytes).is_ok()
 }
 
 // The system's words for an error, without its number behind them.
@@ -37,10 +37,10 @@ fn spelled(error: io::Error, buffer: &mut [u8; 128]) -> usize {
 pub fn fail(streams: Streams, what: &[u8], error: io::Error) {
     let mut buffer = [0u8; 128];
     let n = spelled(error, &mut buffer).min(128);
-    put(&streams.error, what);
-    put(&streams.error, b": ");
+    write_all(&streams.error, what);
+    write_all(&streams.error, b": ");
     if let Ok(text) = str::from_utf8(&buffer[..n]) {
-        put(&streams.error, words(text).as_bytes());
+        write_all(&streams.error, words(text).as_bytes());
     }
-    put(&streams.error, b"\n");
+    write_all(&streams.error, b"\n");
 }

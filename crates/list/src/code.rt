@@ -10,12 +10,18 @@ use listing::instruction::{Instruction, instruction_at};
 use listing::print::{blanks, fill, first, hex, instruction, name, named, octal, right};
 use listing::procedure::entered;
 use listing::search::marked_from;
+use listing::streams::Streams;
 use marks::UNMARKED;
 use mcode::{Cause, Module};
 
 // The columns: position, depth, bytes, instruction.
 pub fn put_columns(streams: Streams, out: &mut Block, used: &mut usize) {
-    text(streams, out, used, b"   pos  depth  bytes     instruction\n");
+    text(
+        streams,
+        out,
+        used,
+        b"   pos  depth  bytes     instruction\n",
+    );
 }
 
 fn put_place(streams: Streams, out: &mut Block, used: &mut usize, p: usize) {
@@ -41,7 +47,14 @@ fn put_no_depth(streams: Streams, out: &mut Block, used: &mut usize) {
 }
 
 // A line for each procedure that enters at p.
-fn put_labels(streams: Streams, out: &mut Block, used: &mut usize, image: &[u8], m: Module, p: u16) {
+fn put_labels(
+    streams: Streams,
+    out: &mut Block,
+    used: &mut usize,
+    image: &[u8],
+    m: Module,
+    p: u16,
+) {
     let count = depths::rules::proc_count(m);
     let mut i = entered(image, m, p, 0);
     while i < count {
@@ -52,7 +65,15 @@ fn put_labels(streams: Streams, out: &mut Block, used: &mut usize, image: &[u8],
 }
 
 // The bytes of the code from a to e.
-fn put_bytes(streams: Streams, out: &mut Block, used: &mut usize, image: &[u8], m: Module, a: usize, e: usize) {
+fn put_bytes(
+    streams: Streams,
+    out: &mut Block,
+    used: &mut usize,
+    image: &[u8],
+    m: Module,
+    a: usize,
+    e: usize,
+) {
     let mut p = a;
     while p < e {
         hex(streams, out, used, byte_from(image, m.code, p));
@@ -62,7 +83,15 @@ fn put_bytes(streams: Streams, out: &mut Block, used: &mut usize, image: &[u8], 
 }
 
 // The first bytes of the instruction at p, up to the next column, which begins behind three bytes; more push it to the right.
-fn put_bytes_column(streams: Streams, out: &mut Block, used: &mut usize, image: &[u8], m: Module, p: u16, count: u8) {
+fn put_bytes_column(
+    streams: Streams,
+    out: &mut Block,
+    used: &mut usize,
+    image: &[u8],
+    m: Module,
+    p: u16,
+    count: u8,
+) {
     let at = p as usize;
     let n = count as usize;
     put_bytes(streams, out, used, image, m, at, at + n);

@@ -7,16 +7,18 @@ mod help;
 mod show;
 
 use console::files::{Filled, contents};
+use console::given::{argument, count};
 use console::plain::{Asked, read_arguments};
 use console::print::{Place, refusal};
-use libc::STDERR_FILENO;
 use listing::block::{Block, flush, text};
+use listing::streams::Streams;
+use std::rt::{Env, Files};
 
 // Whether there are files to list, and all arguments are good.
-fn is_asked(count: usize) -> bool {
-    match read_arguments(b"list", 1, count) {
+fn is_asked(rt: &impl Env, streams: Streams, count: usize) -> bool {
+    match read_arguments(rt, streams, b"list", 1, count) {
         Asked::Help => {
-            help::put_help();
+            help::put_help(streams);
             return false;
         }
         Asked::Files => {}
@@ -25,7 +27,7 @@ fn is_asked(count: usize) -> bool {
         }
     }
     if count < 2 {
-        help::put_usage(STDERR_FILENO);
+        help::put_usage(&streams.error);
         return false;
     }
     true
@@ -44,7 +46,7 @@ fn list_bytes(
     notes: &mut [u32],
 ) {
     if 65535 < n {
-        refusal(b"list", name, 1, Place::Unknown);
+        refusal(streams, b"list", name, 1, Place::Unknown);
         return;
     }
     if 1 < i {
@@ -56,34 +58,53 @@ fn list_bytes(
 }
 
 // The file that an argument names.
-fn list_file(streams: Streams, out: &mut Block, used: &mut usize, i: usize) {
-    let mut buffer = io::buffer();
-    let length = os::arg(i, &mut buffer);
+fn list_file(
+    rt: &(impl Env + Files),
+    streams: Streams,
+    out: &mut Block,
+    used: &mut usize,
+    i: usize,
+) {
+    let mut buffer = [0u8; 4096];
+    let length = argument(rt, i, &mut buffer);
     let name = &buffer[..length];
-    let mut image = io::large_buffer();
+    let mut image = [0u8; 65536];
     let mut map = [0u32; 65535];
     let mut notes = [0u32; 65535];
-    match contents(b"list", name, &mut image) {
+    match contents(rt, streams, b"list", name, &mut image) {
         Filled::Failed => {}
-        Filled::Bytes(n) => list_bytes(streams, out, used, i, name, &mut image, n, &mut map, &mut notes),
+        Filled::Bytes(n) => list_bytes(
+            streams, out, used, i, name, &mut image, n, &mut map, &mut notes,
+        ),
     }
 }
 
 // What is listed of a file is written before the next one is read.
-fn list_files(count: usize, streams: Streams, out: &mut Block, used: &mut usize) {
+fn list_files(
+    rt: &(impl Env + Files),
+    streams: Streams,
+    count: usize,
+    out: &mut Block,
+    used: &mut usize,
+) {
     let mut i = 1usize;
     while i < count {
-        list_file(streams, out, used, i);
+        list_file(rt, streams, out, used, i);
         flush(streams, out, used);
         i += 1;
     }
 }
 
-fn main() {
-    let count = os::arg_count();
-    if is_asked(count) {
-        let mut out = io::large_buffer();
+fn main(rt: HostRuntime) {
+    let streams = Streams {
+        input: rt.stdin(),
+        output: rt.stdout(),
+        error: rt.stderr(),
+    };
+    let count = count(&rt);
+    if is_asked(&rt, streams, count) {
+        let mut out = [0u8; 65536];
         let mut used = 0usize;
-        list_files(count, &mut out, &mut used);
+        list_files(&rt, streams, count, &mut out, &mut used);
     }
 }

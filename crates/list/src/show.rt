@@ -5,14 +5,21 @@ use crate::code::{put_code, put_columns};
 use console::fault;
 use console::print::{Place, line_end, refusal, refused_as};
 use explain::{Why, shown};
-use libc::STDOUT_FILENO;
 use listing::block::{Block, flush, text};
 use listing::print::named;
 use listing::procedure::{Procedure, procedure_of};
+use listing::streams::Streams;
 use mcode::{MOST_MODULES, Module, Program};
 
 // The name, the count of bytes, and the count of modules where the image was read.
-fn put_heading(streams: Streams, out: &mut Block, used: &mut usize, name: &[u8], bytes: usize, modules: usize) {
+fn put_heading(
+    streams: Streams,
+    out: &mut Block,
+    used: &mut usize,
+    name: &[u8],
+    bytes: usize,
+    modules: usize,
+) {
     text(streams, out, used, name);
     named(streams, out, used, b": ", bytes as u64);
     text(streams, out, used, b" bytes");
@@ -22,10 +29,22 @@ fn put_heading(streams: Streams, out: &mut Block, used: &mut usize, name: &[u8],
     text(streams, out, used, b"\n");
 }
 
-fn put_procedure(streams: Streams, out: &mut Block, used: &mut usize, i: u16, procedure: Procedure) {
+fn put_procedure(
+    streams: Streams,
+    out: &mut Block,
+    used: &mut usize,
+    i: u16,
+    procedure: Procedure,
+) {
     named(streams, out, used, b"  procedure ", i as u64);
     named(streams, out, used, b": entry ", procedure.entry as u64);
-    named(streams, out, used, b", parameters ", procedure.params as u64);
+    named(
+        streams,
+        out,
+        used,
+        b", parameters ",
+        procedure.params as u64,
+    );
     named(streams, out, used, b", results ", procedure.results as u64);
     text(streams, out, used, b"\n");
 }
@@ -161,12 +180,19 @@ fn put_modules(
 }
 
 // The refusal, in the place of the modules, and on standard error.
-fn put_refusal(streams: Streams, out: &mut Block, used: &mut usize, name: &[u8], number: u16, place: Place) {
+fn put_refusal(
+    streams: Streams,
+    out: &mut Block,
+    used: &mut usize,
+    name: &[u8],
+    number: u16,
+    place: Place,
+) {
     if flush(streams, out, used) {
-        refused_as(STDOUT_FILENO, number, place);
-        line_end();
+        refused_as(&streams.output, number, place);
+        line_end(streams);
     }
-    refusal(b"list", name, number, place);
+    refusal(streams, b"list", name, number, place);
 }
 
 // A refusal stands in the place of the modules, but for 13 and 8: there they are shown all the same, as far as the code is reached, with what
@@ -186,7 +212,17 @@ pub fn put_image(
     let verdict = loader::load::load(image, map);
     let number = verdict.number;
     if number == 0 {
-        put_modules(streams, out, used, image, map, notes, program, false, Why::Unknown);
+        put_modules(
+            streams,
+            out,
+            used,
+            image,
+            map,
+            notes,
+            program,
+            false,
+            Why::Unknown,
+        );
         return;
     }
     let place = fault::found(image, map, number);

@@ -6,8 +6,11 @@ ghost use Rattle.reading.specs.Values.{vary_text};
 
 use crate::values::{Tried, channel_of};
 use console::arguments::{Asked, awaits_value, begun, ended, whole, with_text};
+use console::given::count;
 use console::options;
 use console::print::{complaint, too_long};
+use listing::streams::Streams;
+use std::rt::Env;
 
 // Whether the value of --vary comes next.
 #[derive(Clone, Copy)]
@@ -26,7 +29,7 @@ fn refused(asked: Asked) -> Wanted {
 }
 
 // The value of --vary.
-fn with_values(asked: Asked, text: &[u8]) -> Wanted {
+fn with_values(streams: Streams, asked: Asked, text: &[u8]) -> Wanted {
     match channel_of(text) {
         Tried::Channel(_) => Wanted {
             asked,
@@ -34,6 +37,7 @@ fn with_values(asked: Asked, text: &[u8]) -> Wanted {
         },
         Tried::Bad => {
             complaint(
+                streams,
                 b"reading",
                 text,
                 b"--vary takes CH=V1,V2,.., a channel from 0 to 15 and values from 0 to 65535",
@@ -47,13 +51,13 @@ fn with_values(asked: Asked, text: &[u8]) -> Wanted {
 pub fn names_vary(text: &[u8]) -> bool
     ensures { result ≡ same_text (name_of text.now) vary_text }
 {
-    check::same(options::name(text), b"--vary")
+    options::name(text) == b"--vary".as_slice()
 }
 
 // --vary, with its value where that stands in the same argument.
-fn with_vary(asked: Asked, text: &[u8]) -> Wanted {
+fn with_vary(streams: Streams, asked: Asked, text: &[u8]) -> Wanted {
     if options::has_value(text) {
-        return with_values(asked, options::value(text));
+        return with_values(streams, asked, options::value(text));
     }
     Wanted {
         asked,
@@ -62,13 +66,13 @@ fn with_vary(asked: Asked, text: &[u8]) -> Wanted {
 }
 
 // One argument more, which is not the value of --vary.
-fn with_word(asked: Asked, text: &[u8]) -> Wanted {
+fn with_word(streams: Streams, asked: Asked, text: &[u8]) -> Wanted {
     if !awaits_value(asked) {
         if names_vary(text) {
-            return with_vary(asked, text);
+            return with_vary(streams, asked, text);
         }
     }
-    let next = with_text(b"reading", asked, text);
+    let next = with_text(streams, b"reading", asked, text);
     Wanted {
         asked: next,
         varying: false,
@@ -76,37 +80,41 @@ fn with_word(asked: Asked, text: &[u8]) -> Wanted {
 }
 
 // Argument i. One that is too long for the buffer is bad.
-fn with_argument(before: Wanted, i: usize) -> Wanted {
-    let mut text = io::buffer();
-    let n = os::arg(i, &mut text);
+fn with_argument(rt: &impl Env, streams: Streams, before: Wanted, i: usize) -> Wanted {
+    let mut text = [0u8; 4096];
     let asked = before.asked;
-    if os::errno() != 0 {
-        too_long(b"reading", i);
-        return refused(asked);
+    match rt.arg(i, &mut text) {
+        Err(_) => {
+            too_long(streams, b"reading", i);
+            refused(asked)
+        }
+        Ok(n) => {
+            if before.varying {
+                return with_values(streams, asked, &text[..n]);
+            }
+            with_word(streams, asked, &text[..n])
+        }
     }
-    if before.varying {
-        return with_values(asked, &text[..n]);
-    }
-    with_word(asked, &text[..n])
 }
 
 // After the last argument: no option may still await its value.
-fn complete(before: Wanted) -> Asked {
+fn complete(streams: Streams, before: Wanted) -> Asked {
     let asked = before.asked;
     if before.varying {
         complaint(
+            streams,
             b"reading",
             b"--vary",
             b"CH=V1,V2,.. must follow (channel 0 to 15, values 0 to 65535)",
         );
         return ended(asked, false);
     }
-    whole(b"reading", asked)
+    whole(streams, b"reading", asked)
 }
 
 // All arguments, up to one that asks for help or is bad.
-pub fn gathered() -> Asked {
-    let count = os::arg_count();
+pub fn gathered(rt: &impl Env, streams: Streams) -> Asked {
+    let count = count(rt);
     let first = begun();
     let mut all = Wanted {
         asked: first,
@@ -114,7 +122,7 @@ pub fn gathered() -> Asked {
     };
     let mut i = 1usize;
     while i < count {
-        all = with_argument(all, i);
+        all = with_argument(rt, streams, all, i);
         let so_far = all.asked;
         if so_far.help {
             return so_far;
@@ -124,5 +132,5 @@ pub fn gathered() -> Asked {
         }
         i += 1;
     }
-    complete(all)
+    complete(streams, all)
 }

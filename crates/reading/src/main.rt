@@ -16,10 +16,12 @@ ghost use Rattle.std.specs.Prelude.{◌≤◌};
 use crate::read::read;
 use crate::vary::{put_shown, put_variations};
 use console::files::Filled;
+use console::given::{argument, count};
 use console::options::{Argument, Options};
 use console::{fault, files, options, print};
-use libc::STDOUT_FILENO;
+use listing::streams::{Streams, write_all};
 use mcode::Ending;
+use std::rt::{Env, Files};
 
 // The words of the store, of which there are `most`.
 fn store_words(chosen: usize, most: usize) -> usize
@@ -32,27 +34,37 @@ fn store_words(chosen: usize, most: usize) -> usize
 }
 
 // The reading of an image, over the whole store, the inputs that it rested on, and what --vary asks.
-fn put_answer(name: &[u8], image: &mut [u8], map: &mut [u32], store: &mut [u16], options: Options) {
+fn put_answer(
+    rt: &impl Env,
+    streams: Streams,
+    name: &[u8],
+    image: &mut [u8],
+    map: &mut [u32],
+    store: &mut [u16],
+    options: Options,
+) {
     let inputs = options.inputs;
     let shown = read(image, map, store, inputs, options);
     let ran = shown.ran;
     let ending = ran.ending;
     match ending {
         Ending::Refused(number) => {
-            print::refused(number);
+            print::refused(streams, number);
             let place = fault::found(image, map, number);
-            print::refusal(b"reading", name, number, place);
+            print::refusal(streams, b"reading", name, number, place);
         }
         Ending::Stopped(_) => {
-            put_shown(shown, options);
-            print::rests_on(ran.channels, options.given, inputs);
-            put_variations(image, map, store, options, shown);
+            put_shown(streams, shown, options);
+            print::rests_on(streams, ran.channels, options.given, inputs);
+            put_variations(rt, streams, image, map, store, options, shown);
         }
     }
 }
 
 // The reading of an image, over the store's chosen words.
 fn put_reading(
+    rt: &impl Env,
+    streams: Streams,
     name: &[u8],
     image: &mut [u8],
     map: &mut [u32],
@@ -60,11 +72,13 @@ fn put_reading(
     options: Options,
 ) {
     let w = store_words(options.store, store.len());
-    put_answer(name, image, map, &mut store[..w], options);
+    put_answer(rt, streams, name, image, map, &mut store[..w], options);
 }
 
 // The reading of a file. It has a heading where there are several.
 fn put_file(
+    rt: &(impl Env + Files),
+    streams: Streams,
     name: &[u8],
     several: bool,
     image: &mut [u8],
@@ -72,14 +86,14 @@ fn put_file(
     store: &mut [u16],
     options: Options,
 ) {
-    match files::contents(b"reading", name, image) {
+    match files::contents(rt, streams, b"reading", name, image) {
         Filled::Failed => {}
         Filled::Bytes(n) => {
             if several {
-                io::write_all(STDOUT_FILENO, name);
-                io::write_all(STDOUT_FILENO, b":\n");
+                write_all(&streams.output, name);
+                write_all(&streams.output, b":\n");
             }
-            put_reading(name, &mut image[..n], map, store, options);
+            put_reading(rt, streams, name, &mut image[..n], map, store, options);
         }
     }
 }
@@ -87,6 +101,8 @@ fn put_file(
 // Argument i, where it is a file: its reading. It answers whether the next argument is the value of this one, which is itself a
 // value where `is_value`.
 fn put_argument(
+    rt: &(impl Env + Files),
+    streams: Streams,
     i: usize,
     is_value: bool,
     several: bool,
@@ -98,11 +114,11 @@ fn put_argument(
     if is_value {
         return false;
     }
-    let mut text = io::buffer();
-    let n = os::arg(i, &mut text);
+    let mut text = [0u8; 4096];
+    let n = argument(rt, i, &mut text);
     match options::kind(&text[..n]) {
         Argument::File => {
-            put_file(&text[..n], several, image, map, store, options);
+            put_file(rt, streams, &text[..n], several, image, map, store, options);
             false
         }
         _ => !options::has_value(&text[..n]),
@@ -111,37 +127,54 @@ fn put_argument(
 
 // The readings of all files.
 fn put_files(
+    rt: &(impl Env + Files),
+    streams: Streams,
     several: bool,
     image: &mut [u8],
     map: &mut [u32],
     store: &mut [u16],
     options: Options,
 ) {
-    let count = os::arg_count();
+    let count = count(rt);
     let mut is_value = false;
     let mut i: usize = 1;
     while i < count {
-        is_value = put_argument(i, is_value, several, image, map, store, options);
+        is_value = put_argument(
+            rt, streams, i, is_value, several, image, map, store, options,
+        );
         i += 1;
     }
 }
 
-fn main() {
+fn main(rt: HostRuntime) {
+    let streams = Streams {
+        input: rt.stdin(),
+        output: rt.stdout(),
+        error: rt.stderr(),
+    };
     let mut image = [0u8; 65536];
     let mut map = [0u32; 65535];
     let mut store = [0u16; 65536];
-    let asked = arguments::gathered();
+    let asked = arguments::gathered(&rt, streams);
     if asked.help {
-        help::put_help();
+        help::put_help(streams);
         return;
     }
     if asked.bad {
         return;
     }
     if asked.files == 0 {
-        help::put_usage(libc::STDERR_FILENO);
+        help::put_usage(&streams.error);
         return;
     }
     let options = asked.options;
-    put_files(1 < asked.files, &mut image, &mut map, &mut store, options);
+    put_files(
+        &rt,
+        streams,
+        1 < asked.files,
+        &mut image,
+        &mut map,
+        &mut store,
+        options,
+    );
 }

@@ -4,25 +4,27 @@ use crate::arguments::names_vary;
 use crate::read::read;
 use crate::shown::{Shown, same_reading};
 use crate::values::{Tried, channel_of, value_end};
+use console::given::{argument, count};
 use console::number::{Number, decimal};
 use console::options::{Argument, Options};
 use console::{options, print};
-use libc::STDOUT_FILENO;
+use listing::streams::{Streams, write_all};
 use mcode::Ending;
+use std::rt::Env;
 
 // `vary CH`, with no line end.
-fn head(channel: u8) {
-    print::number(STDOUT_FILENO, b"vary ", channel as u64);
+fn head(streams: Streams, channel: u8) {
+    print::number(&streams.output, b"vary ", channel as u64);
 }
 
 // The end of a line that began so.
-fn put_words(words: &[u8]) {
-    io::write_all(STDOUT_FILENO, words);
-    print::line_end();
+fn put_words(streams: Streams, words: &[u8]) {
+    write_all(&streams.output, words);
+    print::line_end(streams);
 }
 
 // The lines of a reading that is not refused.
-pub fn put_shown(shown: Shown, options: Options) {
+pub fn put_shown(streams: Streams, shown: Shown, options: Options) {
     let ran = shown.ran;
     let ending = ran.ending;
     match ending {
@@ -30,18 +32,19 @@ pub fn put_shown(shown: Shown, options: Options) {
         Ending::Stopped(stop) => {
             let machine = ran.machine;
             let outputs = shown.outputs;
-            print::reading(stop, ran.count, machine, outputs);
+            print::reading(streams, stop, ran.count, machine, outputs);
             if options.requests != 0 {
-                print::requests_left(shown.left);
+                print::requests_left(streams, shown.left);
             }
             let caught = shown.caught;
-            print::put_caught(caught);
+            print::put_caught(streams, caught);
         }
     }
 }
 
 // The reading with another value of the channel. It answers whether it is another one, which is then shown.
 fn put_trial(
+    streams: Streams,
     channel: u8,
     value: u16,
     image: &[u8],
@@ -53,19 +56,20 @@ fn put_trial(
     let before = options.inputs;
     let inputs = options::with_input(before, channel, value);
     let shown = read(image, map, store, inputs, options);
-    head(channel);
-    print::number(STDOUT_FILENO, b"=", value as u64);
+    head(streams, channel);
+    print::number(&streams.output, b"=", value as u64);
     if same_reading(first, shown) {
-        put_words(b": the same reading");
+        put_words(streams, b": the same reading");
         return false;
     }
-    put_words(b": another reading");
-    put_shown(shown, options);
+    put_words(streams, b": another reading");
+    put_shown(streams, shown, options);
     true
 }
 
 // One value of a list.
 fn put_value(
+    streams: Streams,
     channel: u8,
     text: &[u8],
     image: &[u8],
@@ -76,6 +80,7 @@ fn put_value(
 ) -> bool {
     match decimal(text) {
         Number::Is(n) => put_trial(
+            streams,
             channel,
             (n % 65536) as u16,
             image,
@@ -97,6 +102,7 @@ fn either(a: bool, b: bool) -> bool {
 
 // All values of a list. It answers whether one of them gives another reading.
 fn put_trials(
+    streams: Streams,
     channel: u8,
     list: &[u8],
     image: &[u8],
@@ -109,7 +115,16 @@ fn put_trials(
     let mut at = 0usize;
     while at < list.len() {
         let end = value_end(list, at);
-        let changed = put_value(channel, &list[at..end], image, map, store, options, first);
+        let changed = put_value(
+            streams,
+            channel,
+            &list[at..end],
+            image,
+            map,
+            store,
+            options,
+            first,
+        );
         changes = either(changes, changed);
         if end == list.len() {
             return changes;
@@ -121,6 +136,7 @@ fn put_trials(
 
 // What the values of a channel do to the reading: CH=V1,V2,..
 fn put_channel(
+    streams: Streams,
     text: &[u8],
     image: &[u8],
     map: &mut [u32],
@@ -133,18 +149,24 @@ fn put_channel(
         Tried::Channel(channel) => {
             let ran = first.ran;
             if !print::has_bit(ran.channels, channel as usize) {
-                head(channel);
-                put_words(b": not read, so no value of it changes the reading (none was tried)");
+                head(streams, channel);
+                put_words(
+                    streams,
+                    b": not read, so no value of it changes the reading (none was tried)",
+                );
                 return;
             }
             let list = options::value(text);
-            if put_trials(channel, list, image, map, store, options, first) {
-                head(channel);
-                put_words(b": changes the reading");
+            if put_trials(streams, channel, list, image, map, store, options, first) {
+                head(streams, channel);
+                put_words(streams, b": changes the reading");
                 return;
             }
-            head(channel);
-            put_words(b": the reading stays the same with each of these values");
+            head(streams, channel);
+            put_words(
+                streams,
+                b": the reading stays the same with each of these values",
+            );
         }
     }
 }
@@ -159,6 +181,8 @@ pub enum Behind {
 
 // One argument, and what the next one is: the value of --vary is tried.
 fn put_argument(
+    rt: &impl Env,
+    streams: Streams,
     i: usize,
     behind: Behind,
     image: &[u8],
@@ -167,18 +191,19 @@ fn put_argument(
     options: Options,
     first: Shown,
 ) -> Behind {
-    let mut text = io::buffer();
-    let n = os::arg(i, &mut text);
+    let mut text = [0u8; 4096];
+    let n = argument(rt, i, &mut text);
     match behind {
         Behind::Value => Behind::Any,
         Behind::Values => {
-            put_channel(&text[..n], image, map, store, options, first);
+            put_channel(streams, &text[..n], image, map, store, options, first);
             Behind::Any
         }
         Behind::Any => {
             if names_vary(&text[..n]) {
                 if options::has_value(&text[..n]) {
                     put_channel(
+                        streams,
                         options::value(&text[..n]),
                         image,
                         map,
@@ -210,17 +235,19 @@ fn next_behind(text: &[u8]) -> Behind {
 
 // All that is to be tried, in the order of the arguments.
 pub fn put_variations(
+    rt: &impl Env,
+    streams: Streams,
     image: &[u8],
     map: &mut [u32],
     store: &mut [u16],
     options: Options,
     first: Shown,
 ) {
-    let count = os::arg_count();
+    let count = count(rt);
     let mut behind = Behind::Any;
     let mut i = 1usize;
     while i < count {
-        behind = put_argument(i, behind, image, map, store, options, first);
+        behind = put_argument(rt, streams, i, behind, image, map, store, options, first);
         i += 1;
     }
 }

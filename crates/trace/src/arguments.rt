@@ -1,9 +1,12 @@
 // What the arguments ask together: what console's do, and --limit. They are judged before any file is read; the first bad one ends
 // it, with a line on standard error.
 use console::arguments::{Asked, awaits_value, begun, ended, whole, with_text};
+use console::given::count;
 use console::number::{Number, decimal};
 use console::options;
 use console::print::{complaint, too_long};
+use listing::streams::Streams;
+use std::rt::Env;
 
 // How many steps are listed, and whether the value of --limit comes next.
 #[derive(Clone, Copy)]
@@ -25,7 +28,7 @@ fn refused(wanted: Wanted) -> Wanted {
 }
 
 // The value of --limit.
-fn with_limit(before: Wanted, text: &[u8]) -> Wanted {
+fn with_limit(streams: Streams, before: Wanted, text: &[u8]) -> Wanted {
     match decimal(text) {
         Number::Is(n) => {
             let asked = before.asked;
@@ -37,6 +40,7 @@ fn with_limit(before: Wanted, text: &[u8]) -> Wanted {
         }
         Number::Bad => {
             complaint(
+                streams,
                 b"trace",
                 text,
                 b"--limit takes a number from 0 to 4294967295",
@@ -51,13 +55,13 @@ fn names_limit(asked: Asked, text: &[u8]) -> bool {
     if awaits_value(asked) {
         return false;
     }
-    check::same(options::name(text), b"--limit")
+    options::name(text) == b"--limit".as_slice()
 }
 
 // --limit, with its value where that stands in the same argument.
-fn with_limiting(before: Wanted, text: &[u8]) -> Wanted {
+fn with_limiting(streams: Streams, before: Wanted, text: &[u8]) -> Wanted {
     if options::has_value(text) {
-        return with_limit(before, options::value(text));
+        return with_limit(streams, before, options::value(text));
     }
     let asked = before.asked;
     Wanted {
@@ -68,15 +72,15 @@ fn with_limiting(before: Wanted, text: &[u8]) -> Wanted {
 }
 
 // One argument more.
-fn with_word(before: Wanted, text: &[u8]) -> Wanted {
+fn with_word(streams: Streams, before: Wanted, text: &[u8]) -> Wanted {
     if before.limiting {
-        return with_limit(before, text);
+        return with_limit(streams, before, text);
     }
     let last = before.asked;
     if names_limit(last, text) {
-        return with_limiting(before, text);
+        return with_limiting(streams, before, text);
     }
-    let asked = with_text(b"trace", last, text);
+    let asked = with_text(streams, b"trace", last, text);
     Wanted {
         asked,
         limit: before.limit,
@@ -85,20 +89,22 @@ fn with_word(before: Wanted, text: &[u8]) -> Wanted {
 }
 
 // Argument i. One that is too long for the buffer is bad.
-fn with_argument(before: Wanted, i: usize) -> Wanted {
-    let mut text = io::buffer();
-    let n = os::arg(i, &mut text);
-    if os::errno() != 0 {
-        too_long(b"trace", i);
-        return refused(before);
+fn with_argument(rt: &impl Env, streams: Streams, before: Wanted, i: usize) -> Wanted {
+    let mut text = [0u8; 4096];
+    match rt.arg(i, &mut text) {
+        Err(_) => {
+            too_long(streams, b"trace", i);
+            refused(before)
+        }
+        Ok(n) => with_word(streams, before, &text[..n]),
     }
-    with_word(before, &text[..n])
 }
 
 // After the last argument: no option may still await its value.
-fn complete(before: Wanted) -> Wanted {
+fn complete(streams: Streams, before: Wanted) -> Wanted {
     if before.limiting {
         complaint(
+            streams,
             b"trace",
             b"--limit",
             b"a number from 0 to 4294967295 must follow",
@@ -106,7 +112,7 @@ fn complete(before: Wanted) -> Wanted {
         return refused(before);
     }
     let last = before.asked;
-    let asked = whole(b"trace", last);
+    let asked = whole(streams, b"trace", last);
     Wanted {
         asked,
         limit: before.limit,
@@ -115,8 +121,8 @@ fn complete(before: Wanted) -> Wanted {
 }
 
 // All arguments, up to one that asks for help or is bad.
-pub fn gathered() -> Wanted {
-    let count = os::arg_count();
+pub fn gathered(rt: &impl Env, streams: Streams) -> Wanted {
+    let count = count(rt);
     let asked = begun();
     let mut all = Wanted {
         asked,
@@ -125,7 +131,7 @@ pub fn gathered() -> Wanted {
     };
     let mut i = 1usize;
     while i < count {
-        all = with_argument(all, i);
+        all = with_argument(rt, streams, all, i);
         let so_far = all.asked;
         if so_far.help {
             return all;
@@ -135,5 +141,5 @@ pub fn gathered() -> Wanted {
         }
         i += 1;
     }
-    complete(all)
+    complete(streams, all)
 }

@@ -15,6 +15,7 @@ use crate::arguments::gathered;
 use crate::steps::traced;
 use console::caught::caught_in;
 use console::files::{Filled, contents};
+use console::given::{argument, count};
 use console::number::sum;
 use console::options::{Argument, Options};
 use console::print::{
@@ -22,10 +23,11 @@ use console::print::{
 };
 use console::{fault, options, words};
 use engine::run::Ran;
-use libc::{STDERR_FILENO, STDOUT_FILENO};
 use listing::block::{Block, flush, text};
+use listing::streams::{Streams, write_all};
 use loader::start::start;
 use mcode::{Ending, Machine, Program};
+use std::rt::{Env, Files};
 
 // The words of the store, of which there are `most`.
 fn store_words(chosen: usize, most: usize) -> usize
@@ -51,47 +53,47 @@ fn put_refusal(
     if n <= image.len() {
         let place = fault::found(&mut image[0..n], map, number);
         if flush(streams, out, used) {
-            refused_as(STDOUT_FILENO, number, place);
-            line_end();
+            refused_as(&streams.output, number, place);
+            line_end(streams);
         }
-        refusal(b"trace", name, number, place);
+        refusal(streams, b"trace", name, number, place);
     }
 }
 
 // The stop in words, and the two lines of the reading, behind all that was to be written before.
-fn put_end(ran: Ran, outputs: [u16; 16]) {
+fn put_end(streams: Streams, ran: Ran, outputs: [u16; 16]) {
     let ending = ran.ending;
     match ending {
         Ending::Refused(number) => {
-            refused_as(STDOUT_FILENO, number, Place::Unknown);
-            line_end();
+            refused_as(&streams.output, number, Place::Unknown);
+            line_end(streams);
         }
         Ending::Stopped(stop) => {
-            io::write_all(STDOUT_FILENO, b"stopped: ");
-            words::stop(STDOUT_FILENO, mcode::stop_number(stop));
-            io::write_all(STDOUT_FILENO, b"\n");
+            write_all(&streams.output, b"stopped: ");
+            words::stop(&streams.output, mcode::stop_number(stop));
+            write_all(&streams.output, b"\n");
             let machine = ran.machine;
-            reading(stop, ran.count, machine, outputs);
+            reading(streams, stop, ran.count, machine, outputs);
         }
     }
 }
 
 // With requests a third line has what is left of them.
-fn put_left(options: Options, left: u16) {
+fn put_left(streams: Streams, options: Options, left: u16) {
     if options.requests != 0 {
-        requests_left(left);
+        requests_left(streams, left);
     }
 }
 
 // Where the store tells of a caught trap, a line does; the last ones say which inputs the reading rested on.
-fn put_last(ran: Ran, image: &[u8], store: &[u16], options: Options) {
+fn put_last(streams: Streams, ran: Ran, image: &[u8], store: &[u16], options: Options) {
     let ending = ran.ending;
     match ending {
         Ending::Refused(_) => {}
         Ending::Stopped(_) => {
-            put_caught(caught_in(image, store));
+            put_caught(streams, caught_in(image, store));
             let inputs = options.inputs;
-            rests_on(ran.channels, options.given, inputs);
+            rests_on(streams, ran.channels, options.given, inputs);
         }
     }
 }
@@ -209,9 +211,9 @@ fn put_steps(
     );
     if flush(streams, out, used) {
         let end = all.ran;
-        put_end(end, outputs);
-        put_left(options, all.left);
-        put_last(end, image, store, options);
+        put_end(streams, end, outputs);
+        put_left(streams, options, all.left);
+        put_last(streams, end, image, store, options);
     }
 }
 
@@ -291,7 +293,7 @@ fn put_bytes(
     used: &mut usize,
 ) {
     if 65535 < n {
-        refusal(b"trace", name, 1, Place::Unknown);
+        refusal(streams, b"trace", name, 1, Place::Unknown);
         return;
     }
     text(streams, out, used, name);
@@ -314,6 +316,7 @@ fn put_bytes(
 }
 
 fn put_file(
+    rt: &impl Files,
     name: &[u8],
     store: &mut [u16],
     before: &mut [u16],
@@ -323,8 +326,8 @@ fn put_file(
     out: &mut Block,
     used: &mut usize,
 ) {
-    let mut image = io::large_buffer();
-    match contents(b"trace", name, &mut image) {
+    let mut image = [0u8; 65536];
+    match contents(rt, streams, b"trace", name, &mut image) {
         Filled::Failed => {}
         Filled::Bytes(n) => put_bytes(
             name, &mut image, n, store, before, options, limit, streams, out, used,
@@ -334,6 +337,7 @@ fn put_file(
 
 // Argument i, where it is a file. Answers whether the next argument is the value of this one.
 fn put_argument(
+    rt: &(impl Env + Files),
     i: usize,
     is_value: bool,
     store: &mut [u16],
@@ -347,11 +351,21 @@ fn put_argument(
     if is_value {
         return false;
     }
-    let mut word = io::buffer();
-    let n = os::arg(i, &mut word);
+    let mut word = [0u8; 4096];
+    let n = argument(rt, i, &mut word);
     match options::kind(&word[..n]) {
         Argument::File => {
-            put_file(&word[..n], store, before, options, limit, streams, out, used);
+            put_file(
+                rt,
+                &word[..n],
+                store,
+                before,
+                options,
+                limit,
+                streams,
+                out,
+                used,
+            );
             false
         }
         _ => !options::has_value(&word[..n]),
@@ -359,6 +373,7 @@ fn put_argument(
 }
 
 fn put_files(
+    rt: &(impl Env + Files),
     store: &mut [u16],
     before: &mut [u16],
     options: Options,
@@ -367,39 +382,48 @@ fn put_files(
     out: &mut Block,
     used: &mut usize,
 ) {
-    let count = os::arg_count();
+    let count = count(rt);
     let mut is_value = false;
     let mut i = 1usize;
     while i < count {
-        is_value = put_argument(i, is_value, store, before, options, limit, streams, out, used);
+        is_value = put_argument(
+            rt, i, is_value, store, before, options, limit, streams, out, used,
+        );
         i += 1;
     }
 }
 
-fn main() {
-    let all = gathered();
+fn main(rt: HostRuntime) {
+    let streams = Streams {
+        input: rt.stdin(),
+        output: rt.stdout(),
+        error: rt.stderr(),
+    };
+    let all = gathered(&rt, streams);
     let asked = all.asked;
     if asked.help {
-        help::put_help();
+        help::put_help(streams);
         return;
     }
     if asked.bad {
         return;
     }
     if asked.files == 0 {
-        help::put_usage(STDERR_FILENO);
+        help::put_usage(&streams.error);
         return;
     }
     let mut store = [0u16; 65536];
     let mut before = [0u16; 65536];
-    let mut out = io::large_buffer();
+    let mut out = [0u8; 65536];
     let mut used = 0usize;
     let options = asked.options;
     put_files(
+        &rt,
         &mut store,
         &mut before,
         options,
         all.limit,
+        streams,
         &mut out,
         &mut used,
     );

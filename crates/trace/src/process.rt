@@ -8,6 +8,7 @@ use engine::run::Ran;
 use listing::block::{Block, text};
 use listing::bytes::{byte_from, word_at};
 use listing::print::{first, named};
+use listing::streams::Streams;
 use mcode::{MOST_MODULES, Machine, Program, Registers};
 
 // The opcode where the registers stand.
@@ -70,7 +71,12 @@ fn put_processes(streams: Streams, out: &mut Block, used: &mut usize, left: u16,
 // The number of a caught trap, with its words. The words that are saved may lie over the one that has it.
 fn put_trap(streams: Streams, out: &mut Block, used: &mut usize, number: u16) {
     if !is_trap(number) {
-        text(streams, out, used, b"        trap, its number written over\n");
+        text(
+            streams,
+            out,
+            used,
+            b"        trap, its number written over\n",
+        );
         return;
     }
     let letters = stop_letters(number);
@@ -81,7 +87,14 @@ fn put_trap(streams: Streams, out: &mut Block, used: &mut usize, number: u16) {
 }
 
 // A change by a line or a caught trap, over the words of the store before it and after it. That of 256 shows in the registers.
-pub fn put_changed(streams: Streams, out: &mut Block, used: &mut usize, turn: Turn, words: &[u16], store: &[u16]) {
+pub fn put_changed(
+    streams: Streams,
+    out: &mut Block,
+    used: &mut usize,
+    turn: Turn,
+    words: &[u16],
+    store: &[u16],
+) {
     if is_caught(turn, words) {
         put_trap(streams, out, used, word_at(store, turn.p as usize + 6));
         put_processes(streams, out, used, turn.p, turn.q);

@@ -7,10 +7,16 @@ use listing::bytes::word_at;
 use listing::instruction::instruction_at;
 use listing::print::{blanks, fill, instruction, named, number, right};
 use listing::search::changed;
+use listing::streams::Streams;
 use mcode::{MOST_MODULES, Machine, Program, Registers};
 
 pub fn put_columns(streams: Streams, out: &mut Block, used: &mut usize) {
-    text(streams, out, used, b"  step  module    pos  instruction   stack\n");
+    text(
+        streams,
+        out,
+        used,
+        b"  step  module    pos  instruction   stack\n",
+    );
 }
 
 // Word i of a row.
@@ -38,7 +44,14 @@ fn put_stack(streams: Streams, out: &mut Block, used: &mut usize, machine: Machi
 }
 
 // A register, where it changed.
-fn put_register(streams: Streams, out: &mut Block, used: &mut usize, letters: &[u8], before: u16, after: u16) {
+fn put_register(
+    streams: Streams,
+    out: &mut Block,
+    used: &mut usize,
+    letters: &[u8],
+    before: u16,
+    after: u16,
+) {
     if before != after {
         text(streams, out, used, b"        ");
         named(streams, out, used, letters, before as u64);
@@ -47,8 +60,21 @@ fn put_register(streams: Streams, out: &mut Block, used: &mut usize, letters: &[
     }
 }
 
-fn put_registers(streams: Streams, out: &mut Block, used: &mut usize, before: Registers, after: Registers) {
-    put_register(streams, out, used, b"module ", before.unit as u16, after.unit as u16);
+fn put_registers(
+    streams: Streams,
+    out: &mut Block,
+    used: &mut usize,
+    before: Registers,
+    after: Registers,
+) {
+    put_register(
+        streams,
+        out,
+        used,
+        b"module ",
+        before.unit as u16,
+        after.unit as u16,
+    );
     put_register(streams, out, used, b"L ", before.l.0, after.l.0);
     put_register(streams, out, used, b"S ", before.s.0, after.s.0);
     put_register(streams, out, used, b"H ", before.h.0, after.h.0);
@@ -68,14 +94,27 @@ fn put_change(streams: Streams, out: &mut Block, used: &mut usize, before: u16, 
 }
 
 // A word of the store that changed.
-fn put_stored(streams: Streams, out: &mut Block, used: &mut usize, i: usize, before: u16, after: u16) {
+fn put_stored(
+    streams: Streams,
+    out: &mut Block,
+    used: &mut usize,
+    i: usize,
+    before: u16,
+    after: u16,
+) {
     named(streams, out, used, b"        store ", i as u64);
     put_change(streams, out, used, before, after);
     text(streams, out, used, b"\n");
 }
 
 // The words of the store that changed. Afterwards `before` holds them.
-fn put_store(streams: Streams, out: &mut Block, used: &mut usize, before: &mut [u16], store: &[u16]) {
+fn put_store(
+    streams: Streams,
+    out: &mut Block,
+    used: &mut usize,
+    before: &mut [u16],
+    store: &[u16],
+) {
     let mut i = changed(before, store, 0);
     while i < store.len() {
         put_stored(streams, out, used, i, word_at(before, i), store[i]);
@@ -85,7 +124,15 @@ fn put_store(streams: Streams, out: &mut Block, used: &mut usize, before: &mut [
 }
 
 // An output that changed, at the margin and with the step that changed it.
-fn put_output(streams: Streams, out: &mut Block, used: &mut usize, i: usize, before: u16, after: u16, step: u64) {
+fn put_output(
+    streams: Streams,
+    out: &mut Block,
+    used: &mut usize,
+    i: usize,
+    before: u16,
+    after: u16,
+    step: u64,
+) {
     named(streams, out, used, b"output ", i as u64);
     put_change(streams, out, used, before, after);
     named(streams, out, used, b" (step ", step);
@@ -93,7 +140,14 @@ fn put_output(streams: Streams, out: &mut Block, used: &mut usize, i: usize, bef
 }
 
 // The outputs that changed. Afterwards `last` holds them.
-fn put_outputs(streams: Streams, out: &mut Block, used: &mut usize, last: &mut [u16], outputs: &[u16], step: u64) {
+fn put_outputs(
+    streams: Streams,
+    out: &mut Block,
+    used: &mut usize,
+    last: &mut [u16],
+    outputs: &[u16],
+    step: u64,
+) {
     let mut i = changed(last, outputs, 0);
     while i < outputs.len() {
         put_output(streams, out, used, i, word_at(last, i), outputs[i], step);

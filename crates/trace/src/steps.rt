@@ -9,6 +9,7 @@ use crate::show::put_step;
 use console::options::is_spent;
 use engine::run::{Ran, run};
 use listing::block::Block;
+use listing::streams::Streams;
 use mcode::{Machine, Program};
 
 // Up to m steps more, with the requests that are left; their counts add, and the channels are united.
@@ -70,7 +71,8 @@ fn turns(
     while done < n {
         let next = more(ran, image, map, store, outputs, inputs, 1);
         put_step(
-            streams, out, used, ran, next, program, image, limit, earlier, before, store, last, outputs,
+            streams, out, used, ran, next, program, image, limit, earlier, before, store, last,
+            outputs,
         );
         ran = next;
         done += 1;

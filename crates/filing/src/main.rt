@@ -8,63 +8,70 @@ mod forms;
 mod help;
 mod same;
 
+use console::given::{argument, count};
 use console::plain::{Asked, read_arguments};
-use libc::{STDERR_FILENO, STDOUT_FILENO};
+use listing::streams::{Streams, fail};
+use std::rt::{Env, Files};
 
 // The form of one image, to standard output.
-fn archive_file(i: usize) {
-    let mut bytes = io::large_buffer();
+fn archive_file(rt: &(impl Env + Files), streams: Streams, i: usize) {
+    let mut bytes = [0u8; 65536];
     let mut map = [0u32; 65535];
-    let mut form = io::large_buffer();
-    let length = forms::form_of(b"archive", i, &mut bytes, &mut map, &mut form);
+    let mut form = [0u8; 65536];
+    let length = forms::form_of(rt, streams, b"archive", i, &mut bytes, &mut map, &mut form);
     if length <= form.len() {
-        if !io::write_all(STDOUT_FILENO, &form[0..length]) {
-            os::fail(b"standard output");
+        if let Err(error) = streams.output.write_all(&form[0..length]) {
+            fail(streams, b"standard output", error);
         }
     }
 }
 
-fn run_archive(count: usize) {
-    match read_arguments(b"archive", 2, count) {
-        Asked::Help => help::put_archive(),
+fn run_archive(rt: &(impl Env + Files), streams: Streams, count: usize) {
+    match read_arguments(rt, streams, b"archive", 2, count) {
+        Asked::Help => help::put_archive(streams),
         Asked::Bad => {}
         Asked::Files => {
             if count != 3 {
-                help::put_archive_usage(STDERR_FILENO);
+                help::put_archive_usage(&streams.error);
                 return;
             }
-            archive_file(2);
+            archive_file(rt, streams, 2);
         }
     }
 }
 
-fn run_same(count: usize) {
-    match read_arguments(b"same", 2, count) {
-        Asked::Help => help::put_same(),
+fn run_same(rt: &(impl Env + Files), streams: Streams, count: usize) {
+    match read_arguments(rt, streams, b"same", 2, count) {
+        Asked::Help => help::put_same(streams),
         Asked::Bad => {}
         Asked::Files => {
             if count != 4 {
-                help::put_same_usage(STDERR_FILENO);
+                help::put_same_usage(&streams.error);
                 return;
             }
-            same::compare_files(2, 3);
+            same::compare_files(rt, streams, 2, 3);
         }
     }
 }
 
-fn main() {
-    let count = os::arg_count();
-    let mut buffer = io::buffer();
-    let n = os::arg(1, &mut buffer);
+fn main(rt: HostRuntime) {
+    let streams = Streams {
+        input: rt.stdin(),
+        output: rt.stdout(),
+        error: rt.stderr(),
+    };
+    let count = count(&rt);
+    let mut buffer = [0u8; 4096];
+    let n = argument(&rt, 1, &mut buffer);
     let command = &buffer[..n];
-    if check::same(command, b"archive") {
-        run_archive(count);
+    if command == b"archive".as_slice() {
+        run_archive(&rt, streams, count);
         return;
     }
-    if check::same(command, b"same") {
-        run_same(count);
+    if command == b"same".as_slice() {
+        run_same(&rt, streams, count);
         return;
     }
-    help::put_archive_usage(STDERR_FILENO);
-    help::put_same_usage(STDERR_FILENO);
+    help::put_archive_usage(&streams.error);
+    help::put_same_usage(&streams.error);
 }

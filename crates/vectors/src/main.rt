@@ -8,22 +8,26 @@ mod parts;
 mod reading;
 mod replay;
 
-fn main() {
+fn main(rt: HostRuntime) {
+    let stdin = rt.stdin();
+    let stdout = rt.stdout();
     let mut buffer = [0u8; 4096];
     let mut text = [0u8; 4096];
     let mut image = [0u8; 65600];
     let mut map = [0u32; 65600];
     let mut output = [0u8; 65600];
     let mut store = [0u16; 65600];
-    let begun = input::header(&mut buffer);
+    let begun = input::header(stdin, &mut buffer);
     let at = replay::cases(
+        stdin,
         &mut buffer,
         begun,
+        stdout,
         &mut text,
         &mut image,
         &mut map,
         &mut output,
         &mut store,
     );
-    output::flush(&text, at);
+    output::flush(stdout, &text, at);
 }

@@ -1,6 +1,7 @@
 // Reads the parts of a case into their buffers.
 use crate::input::{Input, limited, low_byte, low_word, next_length, next_long, next_word};
 use mcode::{Address, Machine, Position, Registers};
+use std::io::Stdin;
 
 // Up to 32 words with their number, and the place after them.
 #[derive(Clone, Copy)]
@@ -79,8 +80,14 @@ fn fill_bytes(bytes: &mut [u8; 65600], n: usize, byte: u8) {
 }
 
 // The two bytes of a word.
-fn read_pair(buffer: &mut [u8; 4096], from: Input, image: &mut [u8; 65600], k: usize) -> Input {
-    let next = next_word(buffer, from);
+fn read_pair(
+    stdin: Stdin,
+    buffer: &mut [u8; 4096],
+    from: Input,
+    image: &mut [u8; 65600],
+    k: usize,
+) -> Input {
+    let next = next_word(stdin, buffer, from);
     let number = next.number;
     if k < 32800 {
         image[2 * k] = low_byte(number / 256);
@@ -90,42 +97,60 @@ fn read_pair(buffer: &mut [u8; 4096], from: Input, image: &mut [u8; 65600], k: u
 }
 
 // An image of n bytes, two a word; a last byte that stands alone is followed by another.
-fn read_image(buffer: &mut [u8; 4096], from: Input, image: &mut [u8; 65600], n: usize) -> Input {
+fn read_image(
+    stdin: Stdin,
+    buffer: &mut [u8; 4096],
+    from: Input,
+    image: &mut [u8; 65600],
+    n: usize,
+) -> Input {
     let pairs = n / 2 + n % 2;
     let mut next = from;
     let mut k: usize = 0;
     while k < pairs {
-        next = read_pair(buffer, next, image, k);
+        next = read_pair(stdin, buffer, next, image, k);
         k += 1;
     }
     next
 }
 
-fn read_to(buffer: &mut [u8; 4096], from: Input, words: &mut [u16; 32], i: usize) -> Input {
-    let next = next_word(buffer, from);
+fn read_to(
+    stdin: Stdin,
+    buffer: &mut [u8; 4096],
+    from: Input,
+    words: &mut [u16; 32],
+    i: usize,
+) -> Input {
+    let next = next_word(stdin, buffer, from);
     if i < 32 {
         words[i] = low_word(next.number);
     }
     next
 }
 
-fn read_words(buffer: &mut [u8; 4096], from: Input, words: &mut [u16; 32], n: usize) -> Input {
+fn read_words(
+    stdin: Stdin,
+    buffer: &mut [u8; 4096],
+    from: Input,
+    words: &mut [u16; 32],
+    n: usize,
+) -> Input {
     let mut next = from;
     let mut i: usize = 0;
     while i < n {
-        next = read_to(buffer, next, words, i);
+        next = read_to(stdin, buffer, next, words, i);
         i += 1;
     }
     next
 }
 
 // A list: its length, which is not above the limit, and its words. The others are 0.
-fn read_list(buffer: &mut [u8; 4096], from: Input, most: u32) -> List {
-    let next = next_word(buffer, from);
+fn read_list(stdin: Stdin, buffer: &mut [u8; 4096], from: Input, most: u32) -> List {
+    let next = next_word(stdin, buffer, from);
     let size = limited(next, most);
     let count = size.number as usize;
     let mut words = [0u16; 32];
-    let input = read_words(buffer, size, &mut words, count);
+    let input = read_words(stdin, buffer, size, &mut words, count);
     List {
         input,
         count,
@@ -135,6 +160,7 @@ fn read_list(buffer: &mut [u8; 4096], from: Input, most: u32) -> List {
 
 // A case up to its runs. The map, the output and the store are filled as it says.
 pub fn read_case(
+    stdin: Stdin,
     buffer: &mut [u8; 4096],
     from: Input,
     image: &mut [u8; 65600],
@@ -142,22 +168,22 @@ pub fn read_case(
     output: &mut [u8; 65600],
     store: &mut [u16; 65600],
 ) -> Case {
-    let size = next_length(buffer, from);
+    let size = next_length(stdin, buffer, from);
     let n = size.number as usize;
-    let after = read_image(buffer, size, image, n);
-    let marks = next_length(buffer, after);
+    let after = read_image(stdin, buffer, size, image, n);
+    let marks = next_length(stdin, buffer, after);
     let m = marks.number as usize;
-    let entry = next_long(buffer, marks);
+    let entry = next_long(stdin, buffer, marks);
     fill_entries(map, m, entry.number);
-    let bytes = next_length(buffer, entry);
+    let bytes = next_length(stdin, buffer, entry);
     let o = bytes.number as usize;
-    let byte = next_word(buffer, bytes);
+    let byte = next_word(stdin, buffer, bytes);
     fill_bytes(output, o, low_byte(byte.number));
-    let words = next_length(buffer, byte);
+    let words = next_length(stdin, buffer, byte);
     let w = words.number as usize;
-    let word = next_word(buffer, words);
+    let word = next_word(stdin, buffer, words);
     fill_words(store, w, low_word(word.number));
-    let list = read_list(buffer, word, 32);
+    let list = read_list(stdin, buffer, word, 32);
     let input = list.input;
     let outputs = list.words;
     Case {
@@ -174,51 +200,52 @@ pub fn read_case(
 
 // A run: its budget, its inputs and its machine, or those of the run before, and then its patches.
 pub fn read_run(
+    stdin: Stdin,
     buffer: &mut [u8; 4096],
     before: Run,
     map: &mut [u32; 65600],
     store: &mut [u16; 65600],
 ) -> Run {
     let from = before.input;
-    let budget = next_long(buffer, from);
+    let budget = next_long(stdin, buffer, from);
     let mut run = before;
     run.input = budget;
     run.budget = budget.number;
-    run = read_requests(buffer, run);
-    run = read_inputs(buffer, run);
-    run = read_machine(buffer, run);
+    run = read_requests(stdin, buffer, run);
+    run = read_inputs(stdin, buffer, run);
+    run = read_machine(stdin, buffer, run);
     let patches = run.input;
-    let marked = patch_map(buffer, patches, map);
-    let patched = patch_store(buffer, marked, store);
+    let marked = patch_map(stdin, buffer, patches, map);
+    let patched = patch_store(stdin, buffer, marked, store);
     run.input = patched;
     run
 }
 
 // 1 and the word of requests, or 0 where it is what the run before returned.
-fn read_requests(buffer: &mut [u8; 4096], before: Run) -> Run {
+fn read_requests(stdin: Stdin, buffer: &mut [u8; 4096], before: Run) -> Run {
     let from = before.input;
-    let own = next_word(buffer, from);
+    let own = next_word(stdin, buffer, from);
     let mut run = before;
     run.input = own;
     if own.number == 0 {
         return run;
     }
-    let word = next_word(buffer, own);
+    let word = next_word(stdin, buffer, own);
     run.input = word;
     run.requests = low_word(word.number);
     run
 }
 
 // 1 and a list of inputs, or 0 where they are those of the run before.
-fn read_inputs(buffer: &mut [u8; 4096], before: Run) -> Run {
+fn read_inputs(stdin: Stdin, buffer: &mut [u8; 4096], before: Run) -> Run {
     let from = before.input;
-    let own = next_word(buffer, from);
+    let own = next_word(stdin, buffer, from);
     let mut run = before;
     run.input = own;
     if own.number == 0 {
         return run;
     }
-    let list = read_list(buffer, own, 32);
+    let list = read_list(stdin, buffer, own, 32);
     let input = list.input;
     let inputs = list.words;
     run.input = input;
@@ -228,17 +255,17 @@ fn read_inputs(buffer: &mut [u8; 4096], before: Run) -> Run {
 }
 
 // 1 and a machine, or 0 where it is the one that start or the run before returned.
-fn read_machine(buffer: &mut [u8; 4096], before: Run) -> Run {
+fn read_machine(stdin: Stdin, buffer: &mut [u8; 4096], before: Run) -> Run {
     let from = before.input;
-    let own = next_word(buffer, from);
+    let own = next_word(stdin, buffer, from);
     let mut run = before;
     run.input = own;
     if own.number == 0 {
         return run;
     }
     let mut words = [0u16; 32];
-    let next = read_words(buffer, own, &mut words, 8);
-    let list = read_list(buffer, next, 16);
+    let next = read_words(stdin, buffer, own, &mut words, 8);
+    let list = read_list(stdin, buffer, next, 16);
     let input = list.input;
     let stack = list.words;
     let machine = machine_of(words, stack);
@@ -277,36 +304,51 @@ fn first_half(list: [u16; 32]) -> [u16; 16] {
     ]
 }
 
-fn patch_entry(buffer: &mut [u8; 4096], from: Input, map: &mut [u32; 65600]) -> Input {
-    let offset = next_word(buffer, from);
-    let entry = next_long(buffer, offset);
+fn patch_entry(
+    stdin: Stdin,
+    buffer: &mut [u8; 4096],
+    from: Input,
+    map: &mut [u32; 65600],
+) -> Input {
+    let offset = next_word(stdin, buffer, from);
+    let entry = next_long(stdin, buffer, offset);
     set_entry(map, offset.number as usize, entry.number);
     entry
 }
 
-fn patch_word(buffer: &mut [u8; 4096], from: Input, store: &mut [u16; 65600]) -> Input {
-    let address = next_word(buffer, from);
-    let word = next_word(buffer, address);
+fn patch_word(
+    stdin: Stdin,
+    buffer: &mut [u8; 4096],
+    from: Input,
+    store: &mut [u16; 65600],
+) -> Input {
+    let address = next_word(stdin, buffer, from);
+    let word = next_word(stdin, buffer, address);
     set_word(store, address.number as usize, low_word(word.number));
     word
 }
 
 // The patches of a run: their number, and for each an index and a value.
-fn patch_map(buffer: &mut [u8; 4096], from: Input, map: &mut [u32; 65600]) -> Input {
-    let mut next = next_word(buffer, from);
+fn patch_map(stdin: Stdin, buffer: &mut [u8; 4096], from: Input, map: &mut [u32; 65600]) -> Input {
+    let mut next = next_word(stdin, buffer, from);
     let mut left = next.number;
     while 0 < left {
-        next = patch_entry(buffer, next, map);
+        next = patch_entry(stdin, buffer, next, map);
         left -= 1;
     }
     next
 }
 
-fn patch_store(buffer: &mut [u8; 4096], from: Input, store: &mut [u16; 65600]) -> Input {
-    let mut next = next_word(buffer, from);
+fn patch_store(
+    stdin: Stdin,
+    buffer: &mut [u8; 4096],
+    from: Input,
+    store: &mut [u16; 65600],
+) -> Input {
+    let mut next = next_word(stdin, buffer, from);
     let mut left = next.number;
     while 0 < left {
-        next = patch_word(buffer, next, store);
+        next = patch_word(stdin, buffer, next, store);
         left -= 1;
     }
     next

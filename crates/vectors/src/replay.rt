@@ -10,6 +10,7 @@ use crate::reading::{Case, Run, fill_entries, read_case, read_run};
 use engine::run::Ran;
 use loader::start::Started;
 use mcode::{Delivered, Ending, Machine, Verdict};
+use std::io::{Stdin, Stdout};
 
 // How far the input was read and the text's buffer is full.
 #[derive(Clone, Copy)]
@@ -18,9 +19,9 @@ pub struct Places {
     pub out: usize,
 }
 
-fn print_sums(text: &mut [u8; 4096], at: usize, name: &[u8], sums: Sums) -> usize {
-    let next = put_named(text, at, name, sums.first as u64);
-    put_number(text, next, sums.second as u64)
+fn print_sums(stdout: Stdout, text: &mut [u8; 4096], at: usize, name: &[u8], sums: Sums) -> usize {
+    let next = put_named(stdout, text, at, name, sums.first as u64);
+    put_number(stdout, text, next, sums.second as u64)
 }
 
 // How many words the stack has up to the last one that is not 0.
@@ -35,25 +36,25 @@ fn used(stack: [u16; 16]) -> usize {
     0
 }
 
-fn print_stack(text: &mut [u8; 4096], at: usize, stack: [u16; 16]) -> usize {
+fn print_stack(stdout: Stdout, text: &mut [u8; 4096], at: usize, stack: [u16; 16]) -> usize {
     let n = used(stack);
-    put_words(text, at, words_of(&stack, n))
+    put_words(stdout, text, at, words_of(&stack, n))
 }
 
 // The registers in the order of the file, and the stack without the zeros at its end.
-fn print_machine(text: &mut [u8; 4096], at: usize, machine: Machine) -> usize {
+fn print_machine(stdout: Stdout, text: &mut [u8; 4096], at: usize, machine: Machine) -> usize {
     let r = machine.registers;
     let stack = machine.stack;
-    let mut next = put_named(text, at, b" machine", r.unit as u64);
-    next = put_word(text, next, r.pc.0);
-    next = put_number(text, next, r.depth as u64);
-    next = put_word(text, next, r.p.0);
-    next = put_word(text, next, r.l.0);
-    next = put_word(text, next, r.s.0);
-    next = put_word(text, next, r.h.0);
-    next = put_word(text, next, r.mask);
-    next = put_text(text, next, b" stack");
-    print_stack(text, next, stack)
+    let mut next = put_named(stdout, text, at, b" machine", r.unit as u64);
+    next = put_word(stdout, text, next, r.pc.0);
+    next = put_number(stdout, text, next, r.depth as u64);
+    next = put_word(stdout, text, next, r.p.0);
+    next = put_word(stdout, text, next, r.l.0);
+    next = put_word(stdout, text, next, r.s.0);
+    next = put_word(stdout, text, next, r.h.0);
+    next = put_word(stdout, text, next, r.mask);
+    next = put_text(stdout, text, next, b" stack");
+    print_stack(stdout, text, next, stack)
 }
 
 fn number_of(ending: Ending) -> u16 {
@@ -102,20 +103,22 @@ fn start_part(image: &[u8], n: usize, store: &mut [u16], w: usize) -> Started {
 }
 
 fn print_archived(
+    stdout: Stdout,
     text: &mut [u8; 4096],
     at: usize,
     answer: Delivered,
     output: Sums,
     map: Sums,
 ) -> usize {
-    let mut next = put_named(text, at, b"archive", answer.number as u64);
-    next = put_named(text, next, b" length", answer.length as u64);
-    next = print_sums(text, next, b" output", output);
-    next = print_sums(text, next, b" map", map);
-    put_line_end(text, next)
+    let mut next = put_named(stdout, text, at, b"archive", answer.number as u64);
+    next = put_named(stdout, text, next, b" length", answer.length as u64);
+    next = print_sums(stdout, text, next, b" output", output);
+    next = print_sums(stdout, text, next, b" map", map);
+    put_line_end(stdout, text, next)
 }
 
 fn print_begun(
+    stdout: Stdout,
     text: &mut [u8; 4096],
     at: usize,
     load: Verdict,
@@ -125,30 +128,37 @@ fn print_begun(
 ) -> usize {
     let machine = started.machine;
     let pc = load.pc.0;
-    let mut next = put_named(text, at, b"load", load.number as u64);
-    next = put_named(text, next, b" place", load.unit as u64);
-    next = put_word(text, next, pc);
-    next = put_text(text, next, b" map ");
-    next = put_entries(text, next, map);
-    next = put_named(text, next, b" start", started.number as u64);
-    next = print_sums(text, next, b" store", store);
-    next = print_machine(text, next, machine);
-    put_line_end(text, next)
+    let mut next = put_named(stdout, text, at, b"load", load.number as u64);
+    next = put_named(stdout, text, next, b" place", load.unit as u64);
+    next = put_word(stdout, text, next, pc);
+    next = put_text(stdout, text, next, b" map ");
+    next = put_entries(stdout, text, next, map);
+    next = put_named(stdout, text, next, b" start", started.number as u64);
+    next = print_sums(stdout, text, next, b" store", store);
+    next = print_machine(stdout, text, next, machine);
+    put_line_end(stdout, text, next)
 }
 
-fn print_ran(text: &mut [u8; 4096], at: usize, ran: Ran, outputs: &[u16], store: Sums) -> usize {
+fn print_ran(
+    stdout: Stdout,
+    text: &mut [u8; 4096],
+    at: usize,
+    ran: Ran,
+    outputs: &[u16],
+    store: Sums,
+) -> usize {
     let ending = ran.ending;
     let machine = ran.machine;
-    let mut next = put_named(text, at, b"run", number_of(ending) as u64);
-    next = put_named(text, next, b" code", code_of(ending) as u64);
-    next = put_named(text, next, b" count", ran.count as u64);
-    next = put_named(text, next, b" requests", ran.requests as u64);
-    next = put_named(text, next, b" channels", ran.channels as u64);
-    next = print_machine(text, next, machine);
-    next = put_text(text, next, b" outputs");
-    next = put_words(text, next, outputs);
-    next = print_sums(text, next, b" store", store);
-    put_line_end(text, next)
+    let mut next = put_named(stdout, text, at, b"run", number_of(ending) as u64);
+    next = put_named(stdout, text, next, b" code", code_of(ending) as u64);
+    next = put_named(stdout, text, next, b" count", ran.count as u64);
+    next = put_named(stdout, text, next, b" requests", ran.requests as u64);
+    next = put_named(stdout, text, next, b" channels", ran.channels as u64);
+    next = print_machine(stdout, text, next, machine);
+    next = put_text(stdout, text, next, b" outputs");
+    next = put_words(stdout, text, next, outputs);
+    next = print_sums(stdout, text, next, b" store", store);
+    put_line_end(stdout, text, next)
 }
 
 fn run_part(
@@ -189,7 +199,9 @@ struct Progress {
 
 // Reads a run, makes it, and prints its line.
 fn replay_run(
+    stdin: Stdin,
     buffer: &mut [u8; 4096],
+    stdout: Stdout,
     text: &mut [u8; 4096],
     before: Progress,
     case: Case,
@@ -199,7 +211,7 @@ fn replay_run(
     outputs: &mut [u16; 32],
 ) -> Progress {
     let last = before.run;
-    let mut run = read_run(buffer, last, map, store);
+    let mut run = read_run(stdin, buffer, last, map, store);
     let input = run.input;
     if !input.good {
         return Progress {
@@ -220,12 +232,21 @@ fn replay_run(
     run.machine = machine;
     run.requests = ran.requests;
     let sums = sums_of_words(words_of(store, case.store));
-    let out = print_ran(text, before.out, ran, words_of(outputs, case.outs), sums);
+    let out = print_ran(
+        stdout,
+        text,
+        before.out,
+        ran,
+        words_of(outputs, case.outs),
+        sums,
+    );
     Progress { run, out }
 }
 
 fn replay_runs(
+    stdin: Stdin,
     buffer: &mut [u8; 4096],
+    stdout: Stdout,
     text: &mut [u8; 4096],
     first: Progress,
     count: u32,
@@ -239,7 +260,9 @@ fn replay_runs(
     let mut left = count;
     while 0 < left {
         progress = replay_run(
+            stdin,
             buffer,
+            stdout,
             text,
             progress,
             case,
@@ -260,6 +283,7 @@ fn replay_runs(
 
 // Archive and its line; then the map is filled anew for load.
 fn file_away(
+    stdout: Stdout,
     text: &mut [u8; 4096],
     at: usize,
     case: Case,
@@ -271,11 +295,12 @@ fn file_away(
     let bytes = sums_of_bytes(bytes_of(output, case.output));
     let entries = sums_of_entries(entries_of(map, case.map));
     fill_entries(map, case.map, case.entry);
-    print_archived(text, at, answer, bytes, entries)
+    print_archived(stdout, text, at, answer, bytes, entries)
 }
 
 // Load and start, and their line.
 fn begin(
+    stdout: Stdout,
     text: &mut [u8; 4096],
     at: usize,
     case: Case,
@@ -286,7 +311,15 @@ fn begin(
     let load = load_part(image, case.image, map, case.map);
     let started = start_part(image, case.image, store, case.store);
     let sums = sums_of_words(words_of(store, case.store));
-    let out = print_begun(text, at, load, entries_of(map, case.map), started, sums);
+    let out = print_begun(
+        stdout,
+        text,
+        at,
+        load,
+        entries_of(map, case.map),
+        started,
+        sums,
+    );
     let machine = started.machine;
     let input = case.input;
     let run = Run {
@@ -302,7 +335,9 @@ fn begin(
 
 // Reads a case and replays it.
 fn replay_case(
+    stdin: Stdin,
     buffer: &mut [u8; 4096],
+    stdout: Stdout,
     text: &mut [u8; 4096],
     at: Places,
     k: u32,
@@ -312,9 +347,9 @@ fn replay_case(
     store: &mut [u16; 65600],
 ) -> Places {
     let from = at.input;
-    let mut case = read_case(buffer, from, image, map, output, store);
+    let mut case = read_case(stdin, buffer, from, image, map, output, store);
     let listed = case.input;
-    let runs = next_word(buffer, listed);
+    let runs = next_word(stdin, buffer, listed);
     if !runs.good {
         return Places {
             input: runs,
@@ -322,17 +357,30 @@ fn replay_case(
         };
     }
     case.input = runs;
-    let titled = put_named(text, at.out, b"case", k as u64);
-    let next = put_line_end(text, titled);
-    let filed = file_away(text, next, case, image, map, output);
-    let first = begin(text, filed, case, image, map, store);
-    replay_runs(buffer, text, first, runs.number, case, image, map, store)
+    let titled = put_named(stdout, text, at.out, b"case", k as u64);
+    let next = put_line_end(stdout, text, titled);
+    let filed = file_away(stdout, text, next, case, image, map, output);
+    let first = begin(stdout, text, filed, case, image, map, store);
+    replay_runs(
+        stdin,
+        buffer,
+        stdout,
+        text,
+        first,
+        runs.number,
+        case,
+        image,
+        map,
+        store,
+    )
 }
 
 // As many cases as the file's start says, or up to where the file is cut off. Answers how full the text's buffer is.
 pub fn cases(
+    stdin: Stdin,
     buffer: &mut [u8; 4096],
     begun: Input,
+    stdout: Stdout,
     text: &mut [u8; 4096],
     image: &mut [u8; 65600],
     map: &mut [u32; 65600],
@@ -345,7 +393,9 @@ pub fn cases(
     };
     let mut k: u32 = 0;
     while k < begun.number {
-        places = replay_case(buffer, text, places, k, image, map, output, store);
+        places = replay_case(
+            stdin, buffer, stdout, text, places, k, image, map, output, store,
+        );
         let input = places.input;
         if !input.good {
             return places.out;

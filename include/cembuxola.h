@@ -1,6 +1,6 @@
 /* Cembuxola, a proved M-code engine, for C.
  *
- * Link with target/staticlib/libcapi.a, which `rt staticlib capi` writes (x86-64). The functions allocate nothing, keep nothing
+ * Link with target/staticlib/libcapi.a, which `bin/build capi` writes (x86-64). The functions allocate nothing, keep nothing
  * between calls and write only to the buffers named below, so any number of machines may run side by side, in threads too.
  * Of the stack, load takes about 71 KB, archive 72 KB, start 5 KB and run 7 KB (measured: bench/size, docs/PERFORMANCE.md).
  *

@@ -1,4 +1,4 @@
-//! Links the proved library, which `rt staticlib capi` writes.
+//! Links the proved library, which `bin/build capi` writes.
 
 fn main() {
     let folder = std::path::Path::new(env!("CARGO_MANIFEST_DIR")).join("../target/staticlib");

@@ -3,6 +3,7 @@ ghost use Rattle.std.specs.Prelude.{length, IfOk};
 ghost use Rattle.console.specs.Counted.{Within};
 ghost use Rattle.console.specs.declared.files.Filled.TheVariants.{Bytes};
 
+use crate::options::same;
 use crate::print;
 use listing::streams::Streams;
 use std::io::Read;
@@ -77,7 +78,7 @@ pub fn contents(
 ) -> Filled
     ensures { Within result (length buffer.old) }
 {
-    if name == b"-".as_slice() {
+    if same(name, b"-") {
         let mut input = streams.input;
         return read_from(streams, program, name, &mut input, buffer);
     }

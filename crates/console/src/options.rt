@@ -46,7 +46,7 @@ pub enum Argument {
 }
 
 // Whether two texts are the same.
-fn same(a: &[u8], b: &[u8]) -> bool
+pub fn same(a: &[u8], b: &[u8]) -> bool
     ensures { result ≡ same_text a.now b.now }
 {
     a == b

@@ -9,6 +9,7 @@ mod help;
 mod same;
 
 use console::given::{argument, count};
+use console::options;
 use console::plain::{Asked, read_arguments};
 use listing::streams::{Streams, fail};
 use std::rt::{Env, Files};
@@ -64,11 +65,11 @@ fn main(rt: HostRuntime) {
     let mut buffer = [0u8; 4096];
     let n = argument(&rt, 1, &mut buffer);
     let command = &buffer[..n];
-    if command == b"archive".as_slice() {
+    if options::same(command, b"archive") {
         run_archive(&rt, streams, count);
         return;
     }
-    if command == b"same".as_slice() {
+    if options::same(command, b"same") {
         run_same(&rt, streams, count);
         return;
     }

@@ -1,6 +1,7 @@
 // Two images: whether they have the same modules. They have exactly where they have the same form.
 use crate::forms::form_of;
 use compare::{Difference, Part, first_difference};
+use console::options;
 use console::print::{line_end, number};
 use listing::streams::{Streams, write_all};
 use std::rt::{Env, Files};
@@ -70,7 +71,7 @@ fn put_difference(streams: Streams, d: Difference) {
 
 // The line for two forms.
 fn put_compared(streams: Streams, first_form: &[u8], second_form: &[u8]) {
-    if first_form == second_form {
+    if options::same(first_form, second_form) {
         text(streams, b"same modules");
         line_end(streams);
         return;

@@ -51,7 +51,7 @@ fn with_values(streams: Streams, asked: Asked, text: &[u8]) -> Wanted {
 pub fn names_vary(text: &[u8]) -> bool
     ensures { result ≡ same_text (name_of text.now) vary_text }
 {
-    options::name(text) == b"--vary".as_slice()
+    options::same(options::name(text), b"--vary")
 }
 
 // --vary, with its value where that stands in the same argument.

@@ -55,7 +55,7 @@ fn names_limit(asked: Asked, text: &[u8]) -> bool {
     if awaits_value(asked) {
         return false;
     }
-    options::name(text) == b"--limit".as_slice()
+    options::same(options::name(text), b"--limit")
 }
 
 // --limit, with its value where that stands in the same argument.

@@ -5,7 +5,6 @@ use native.Mathlib.Omega.{arith}
 use lib.ListN.{length, get_or, take, length-map, get_or-map}
 use lib.Seq.{get_or-take, length-take-le}
 use Rattle.mcode.specs.Image.{most_modules, bases_of, module_of, no_module}
-use Rattle.mcode.specs.Step.{written}
 use Rattle.mcode.specs.declared.Module.{Module}
 use Rattle.mcode.specs.declared.Program.{Program}
 use Rattle.loader.specs.Begin.{Roomy}

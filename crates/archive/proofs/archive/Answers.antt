@@ -3,7 +3,6 @@ use Rattle.loader.proofs.Answers.{read-so}
 use Rattle.loader.proofs.Begin.{read_told}
 use Rattle.archive.proofs.Answers.{unread-so, refused-so, short-so, whole-so}
 use native.Mathlib.Omega.{arith}
-use borrow.Author.Rules.{rules}
 use Rattle.archive.proofs.archive.Goals as goal
 
 pub returns-then-refusal-ge1 : goal.returns-then-refusal-ge1

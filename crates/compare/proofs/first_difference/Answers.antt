@@ -1,6 +1,5 @@
 use Rattle.compare.proofs.Lists.{value-equal, compared-found, compared-both}
 use Rattle.compare.proofs.Answers.{told-so, refused-first, refused-second, compared-so}
-use borrow.Author.Rules.{rules}
 use Rattle.compare.proofs.first_difference.Goals as goal
 
 pub returns-then-one-ne0 : goal.returns-then-one-ne0

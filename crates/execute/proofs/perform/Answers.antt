@@ -2,7 +2,6 @@ use mathlib.Core.Path.{refl, ◌∙◌}
 use Rattle.control.proofs.Laws.{based, anchored-on}
 use Rattle.execute.proofs.Laws.{even-row, takes_none, in_row, within, listed_in, stacked, roomy, past}
 use native.Mathlib.Omega.{arith}
-use borrow.Author.Rules.{rules}
 use Rattle.execute.proofs.perform.Goals as goal
 
 pub row0-requires : goal.row0-requires

@@ -1,9 +1,6 @@
 use mathlib.Core.Path.{◌∙◌}
 use Rattle.execute.proofs.Laws.{turn_is, asks-turn}
 use native.Mathlib.Omega.{arith}
-use borrow.Author.Rules.{rules}
-use Rattle.execute.proofs.chosen.Reads as chosen-reads
-use Rattle.execute.proofs.perform.Reads as perform-reads
 use Rattle.execute.proofs.turn.Goals as goal
 
 pub bounds-image-i : goal.bounds-image-i

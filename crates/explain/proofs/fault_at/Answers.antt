@@ -7,7 +7,6 @@ use Rattle.depths.specs.Cases.{kind_of, kinds_from, kinds}
 use Rattle.loader.proofs.Walked.{cause-same}
 use Rattle.explain.specs.declared.Why.TheVariants.{Fault}
 use native.Mathlib.Omega.{arith}
-use borrow.Author.Rules.{rules}
 use Rattle.explain.proofs.fault_at.Goals as goal
 
 pub overflow_add-op : goal.overflow_add-op

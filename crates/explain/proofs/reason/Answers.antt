@@ -4,7 +4,6 @@ use Rattle.mcode.specs.declared.Parsed.{Parsed}
 use Rattle.loader.proofs.Begin.{read_told}
 use Rattle.explain.proofs.Places.{broken-so, place-so, whole-so, fault-told, read-so, fault-so}
 use native.Mathlib.Omega.{arith}
-use borrow.Author.Rules.{rules}
 use Rattle.explain.proofs.reason.Goals as goal
 
 pub returns-then-refusal-ge1 : goal.returns-then-refusal-ge1
@@ -14,7 +13,7 @@ pub returns-then-map-image : goal.returns-then-map-image
 returns-then-map-image c = (tt, λ u z l. absurd (omega (arith, l, c.if-map-image.true, c.load-verdict.auto.map)))
 
 pub fault_at-requires : goal.fault_at-requires
-fault_at-requires c = 
+fault_at-requires c =
     let T = read_told _ _ c.read_image-parsed.ensures c.if-refusal-ge1.false in
     record { told = T; k_lt_count = place-so c.args.image.now c.args.map.now c.load-verdict.new.map c.load-verdict.result c.load-verdict.ensures _ c.read_image-parsed.ensures c.if-refusal-ge1.false (omega (arith, c.if-map-image.false, c.load-verdict.auto.map)) c.if-number-eq13.true T }
 

@@ -4,7 +4,6 @@ use Rattle.mcode.specs.Opcode.{takens, lefts, lengths}
 use Rattle.actions.specs.Core.{instruction}
 use native.Mathlib.Omega.{arith}
 use Rattle.rows_low.proofs.Laws.{is021}
-use borrow.Author.Rules.{rules}
 use Rattle.rows_low.proofs.operands.Goals as goal
 
 pub operand-requires : goal.operand-requires

@@ -1,8 +1,5 @@
 use Rattle.mcode.specs.Decode.{decode_of}
 use Rattle.actions.specs.Core.{instruction}
-use borrow.Author.Rules.{rules}
-use Rattle.actions.proofs.compute.put_word.Reads as put-word-reads
-use Rattle.actions.proofs.leaf.wide.Reads as wide-reads
 use Rattle.rows_low.proofs.row0.Goals as goal
 
 pub returns : goal.returns

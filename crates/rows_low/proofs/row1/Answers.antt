@@ -6,7 +6,6 @@ use Rattle.actions.specs.Core.{instruction}
 use native.Mathlib.Omega.{arith}
 use borrow.Author.Tests.{ne_eqb}
 use mathlib.Core.Path.{refl}
-use borrow.Author.Rules.{rules}
 use Rattle.rows_low.proofs.Laws.{past}
 use Rattle.rows_low.proofs.row1.Goals as goal
 

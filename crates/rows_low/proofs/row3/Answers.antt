@@ -4,7 +4,6 @@ use Rattle.mcode.specs.Opcode.{takens, lefts, lengths}
 use Rattle.actions.specs.Core.{instruction}
 use Rattle.rows_low.proofs.Laws.{past, fourth-op, not_there, short3}
 use native.Mathlib.Omega.{arith}
-use borrow.Author.Rules.{rules}
 use Rattle.rows_low.proofs.row3.Goals as goal
 
 pub save-requires : goal.save-requires

@@ -3,7 +3,6 @@ use Rattle.mcode.specs.Opcode.{takens, lefts, lengths}
 use Rattle.actions.specs.Core.{instruction}
 use Rattle.rows_low.proofs.Laws.{after_two, not_there, short5}
 use native.Mathlib.Omega.{arith}
-use borrow.Author.Rules.{rules}
 use Rattle.rows_low.proofs.row5.Goals as goal
 
 pub operand-requires : goal.operand-requires

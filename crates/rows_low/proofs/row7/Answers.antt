@@ -1,6 +1,5 @@
 use Rattle.mcode.specs.Decode.{decode_of}
 use Rattle.actions.specs.Core.{instruction}
-use borrow.Author.Rules.{rules}
 use Rattle.rows_low.proofs.row7.Goals as goal
 
 pub returns : goal.returns

@@ -1,6 +1,6 @@
 use Rattle.mcode.specs.Step.{perform_of}
 use Rattle.actions.proofs.Laws.{stays_at, stays-as}
-use Rattle.std.proofs.Common.{rules, le-ltb, lt-ltb}
+use Rattle.std.proofs.Common.{le-ltb, lt-ltb}
 use Rattle.actions.proofs.bytes.save_byte.Goals as goal
 
 pub returns-then-n-store : goal.returns-then-n-store

@@ -1,4 +1,4 @@
-use Rattle.std.proofs.Common.{refl, ap, rules, le-ltb, lt-ltb}
+use Rattle.std.proofs.Common.{refl, ap, le-ltb, lt-ltb}
 use lib.Bits.{bit_or}
 use Rattle.mcode.specs.Step.{perform_of}
 use Rattle.actions.proofs.Laws.{stays_at, stays-as, bit-fits}

@@ -1,5 +1,4 @@
 use Rattle.mcode.specs.Step.{perform_of}
-use Rattle.std.proofs.Common.{rules}
 use Rattle.actions.proofs.compute.copy.Goals as goal
 
 pub returns : goal.returns

@@ -1,6 +1,5 @@
 use Rattle.mcode.specs.Step.{perform_of}
 use Rattle.actions.proofs.Laws.{stays_at}
-use Rattle.std.proofs.Common.{rules}
 use Rattle.actions.proofs.compute.put_word.Goals as goal
 
 pub returns : goal.returns

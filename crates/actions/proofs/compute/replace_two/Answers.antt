@@ -1,5 +1,4 @@
 use Rattle.actions.proofs.Laws.{stays_at}
-use Rattle.std.proofs.Common.{rules}
 use Rattle.actions.proofs.compute.replace_two.Goals as goal
 
 pub returns : goal.returns

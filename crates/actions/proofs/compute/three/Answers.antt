@@ -1,5 +1,4 @@
 use Rattle.actions.proofs.Laws.{stays-as}
-use Rattle.std.proofs.Common.{rules}
 use Rattle.actions.proofs.compute.three.Goals as goal
 
 pub returns-in-Is : goal.returns-in-Is

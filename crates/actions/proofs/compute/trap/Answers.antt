@@ -1,6 +1,5 @@
 use Rattle.mcode.specs.Step.{perform_of}
 use Rattle.actions.proofs.Laws.{stays-as}
-use Rattle.std.proofs.Common.{rules}
 use Rattle.actions.proofs.compute.trap.Goals as goal
 
 pub returns : goal.returns

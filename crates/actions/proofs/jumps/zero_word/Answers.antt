@@ -1,6 +1,6 @@
 use Rattle.mcode.specs.Step.{perform_of}
 use Rattle.actions.proofs.Laws.{stays_at}
-use Rattle.std.proofs.Common.{rules, eq-eqb, ne_eqb}
+use Rattle.std.proofs.Common.{eq-eqb, ne_eqb}
 use Rattle.actions.proofs.jumps.zero_word.Goals as goal
 
 pub returns-then-top_of-eq0 : goal.returns-then-top_of-eq0

@@ -1,4 +1,3 @@
-use Rattle.std.proofs.Common.{rules}
 use Rattle.actions.proofs.leaf.plus.Goals as goal
 
 pub returns : goal.returns

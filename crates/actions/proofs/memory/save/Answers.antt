@@ -1,6 +1,6 @@
 use Rattle.mcode.specs.Step.{perform_of}
 use Rattle.actions.proofs.Laws.{stays_at, stays-as}
-use Rattle.std.proofs.Common.{rules, le-ltb, lt-ltb}
+use Rattle.std.proofs.Common.{le-ltb, lt-ltb}
 use Rattle.actions.proofs.memory.save.Goals as goal
 
 pub returns-then-i-store : goal.returns-then-i-store

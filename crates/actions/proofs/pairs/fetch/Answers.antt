@@ -1,4 +1,4 @@
-use Rattle.std.proofs.Common.{◌∙◌, rules, le-ltb, lt-ltb}
+use Rattle.std.proofs.Common.{◌∙◌, le-ltb, lt-ltb}
 use Rattle.mcode.specs.Demands.{PairFact}
 use Rattle.mcode.proofs.Pairs.{pair-fact}
 use Rattle.actions.proofs.Laws.{stays_at, stays-as}

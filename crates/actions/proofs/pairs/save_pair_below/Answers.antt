@@ -1,4 +1,4 @@
-use Rattle.std.proofs.Common.{sym, ◌∙◌, rules}
+use Rattle.std.proofs.Common.{sym, ◌∙◌}
 use Rattle.mcode.specs.Step.{perform_of}
 use Rattle.actions.proofs.Laws.{stays_at, stays-as}
 use Rattle.actions.proofs.pairs.save_pair_below.Goals as goal

@@ -1,4 +1,4 @@
-use Rattle.std.proofs.Common.{refl, ◌∙◌, length-set, rules, le-ltb, lt-ltb}
+use Rattle.std.proofs.Common.{refl, ◌∙◌, length-set, le-ltb, lt-ltb}
 use Rattle.mcode.specs.Demands.{PairFact}
 use Rattle.mcode.proofs.Pairs.{pair-fact}
 use Rattle.actions.proofs.pairs.write.Goals as goal

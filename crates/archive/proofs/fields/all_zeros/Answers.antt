@@ -1,11 +1,7 @@
 -- Whether all bytes are zeros; the loop keeps that those left decide.
-use mathlib.Core.Path.{◌≡◌, refl, sym, ◌∙◌}
-use Prim.Native.Nat.{◌-◌, ◌≤◌}
-use lib.ListN.{length, drop}
-use Rattle.mcode.specs.Archive.{zeros}
+use mathlib.Core.Path.{refl, sym, ◌∙◌}
 use Rattle.archive.proofs.Needed.{zeros-next, zeros-other, zeros-end}
 use native.Mathlib.Omega.{arith}
-use borrow.Author.Rules.{rules}
 use Rattle.archive.proofs.fields.all_zeros.Goals as goal
 
 pub loop-i-init : goal.loop-i-init

@@ -1,10 +1,7 @@
-use mathlib.Core.Path.{◌≡◌, refl, sym, ◌∙◌}
+use mathlib.Core.Path.{◌≡◌}
 use Prim.Native.Nat.{◌-◌, ◌≤◌}
 use lib.ListN.{length, drop}
 use Rattle.mcode.specs.Archive.{zeros}
-use Rattle.archive.proofs.Needed.{zeros-next, zeros-other, zeros-end}
-use native.Mathlib.Omega.{arith}
-use borrow.Author.Rules.{rules}
 use Rattle.archive.proofs.fields.all_zeros.Given as goal
 
 abbrev pub invariant-loop-i : goal.invariant-loop-i

@@ -1,8 +1,6 @@
 -- The three bits as one number.
-use Prim.Native.Nat.{◌-◌}
 use Rattle.archive.proofs.Needed.{picked, bit-map-is}
 use native.Mathlib.Omega.{arith}
-use borrow.Author.Rules.{rules}
 use Rattle.archive.proofs.fields.bit_map.Goals as goal
 
 pub overflow_add-result : goal.overflow_add-result

@@ -1,7 +1,6 @@
 -- The fields that the form spells out are the definition's.
 use mathlib.Core.Path.{refl}
 use Rattle.archive.proofs.Needed.{needed-so}
-use borrow.Author.Rules.{rules}
 use Rattle.archive.proofs.fields.fields_of.Goals as goal
 
 pub returns : goal.returns

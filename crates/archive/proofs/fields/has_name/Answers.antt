@@ -7,7 +7,6 @@ use Rattle.mcode.specs.Archive.{zeros}
 use Rattle.mcode.proofs.Lies.{name-lies, name-some}
 use Rattle.archive.proofs.Needed.{name-none}
 use native.Mathlib.Omega.{arith}
-use borrow.Author.Rules.{rules}
 use Rattle.archive.proofs.fields.has_name.Goals as goal
 
 pub returns-then-image-begin-eq0 : goal.returns-then-image-begin-eq0

@@ -1,6 +1,5 @@
 -- The single default procedure, from the count of records and the fields of the first.
 use Rattle.archive.proofs.Needed.{many-so, entry_other, params-other, results-so}
-use borrow.Author.Rules.{rules}
 use Rattle.archive.proofs.fields.is_default.Goals as goal
 
 pub returns-then-m-gt1 : goal.returns-then-m-gt1

@@ -2,7 +2,6 @@
 use Prim.Native.Nat.{◌+◌, ◌*◌}
 use Rattle.archive.proofs.Needed.{length-form, picked}
 use native.Mathlib.Omega.{arith}
-use borrow.Author.Rules.{rules}
 use Rattle.archive.proofs.fields.module_length.Goals as goal
 
 pub overflow_add-result : goal.overflow_add-result

@@ -3,7 +3,6 @@ use mathlib.Core.Path.{◌∙◌, ap}
 use Prim.Native.Nat.{ℕ, ◌+◌}
 use Rattle.archive.proofs.Modules.{front-short, form-length-is}
 use native.Mathlib.Omega.{arith}
-use borrow.Author.Rules.{rules}
 use Rattle.archive.proofs.form.form_length.Goals as goal
 
 pub overflow_add-result : goal.overflow_add-result

@@ -1,14 +1,12 @@
 -- The lengths of the modules' forms, added up; the loop keeps the sum of those before k.
 use mathlib.Core.Path.{◌≡◌, refl, ap, ◌∙◌}
-use Prim.Native.Nat.{ℕ, ◌+◌, ◌-◌, ◌≤◌}
+use Prim.Native.Nat.{ℕ, ◌+◌}
 use lib.ListN.{length}
 use Rattle.mcode.specs.Word.{tabulate}
-use Rattle.mcode.specs.Image.{begin_of}
 use Rattle.mcode.specs.Archive.{content_of, modules_form}
 use Rattle.mcode.proofs.Lies.{lies, begin-next}
 use Rattle.archive.proofs.Modules.{front-short, sum-next}
 use native.Mathlib.Omega.{arith}
-use borrow.Author.Rules.{rules}
 use Rattle.archive.proofs.form.modules_length.Goals as goal
 
 pub loop-k-init : goal.loop-k-init

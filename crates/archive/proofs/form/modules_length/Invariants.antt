@@ -1,13 +1,9 @@
-use mathlib.Core.Path.{◌≡◌, refl, ap, ◌∙◌}
-use Prim.Native.Nat.{ℕ, ◌+◌, ◌-◌, ◌≤◌}
+use mathlib.Core.Path.{◌≡◌}
+use Prim.Native.Nat.{◌-◌, ◌≤◌}
 use lib.ListN.{length}
 use Rattle.mcode.specs.Word.{tabulate}
 use Rattle.mcode.specs.Image.{begin_of}
 use Rattle.mcode.specs.Archive.{content_of, modules_form}
-use Rattle.mcode.proofs.Lies.{lies, begin-next}
-use Rattle.archive.proofs.Modules.{front-short, sum-next}
-use native.Mathlib.Omega.{arith}
-use borrow.Author.Rules.{rules}
 use Rattle.archive.proofs.form.modules_length.Given as goal
 
 abbrev pub invariant-loop-k : goal.invariant-loop-k

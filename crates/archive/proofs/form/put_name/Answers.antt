@@ -3,7 +3,6 @@ use mathlib.Core.Path.{◌≡◌}
 use Prim.Native.Nat.{◌-◌}
 use Rattle.archive.proofs.Puts.{put-none}
 use native.Mathlib.Omega.{arith}
-use borrow.Author.Rules.{rules}
 use Rattle.archive.proofs.form.put_name.Goals as goal
 
 pub overflow_sub-a : goal.overflow_sub-a

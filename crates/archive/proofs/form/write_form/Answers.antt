@@ -1,7 +1,6 @@
 -- The module count and the modules are the form; behind it the output stays.
 use Rattle.archive.proofs.Modules.{form-length-is, form-put}
 use native.Mathlib.Omega.{arith}
-use borrow.Author.Rules.{rules}
 use Rattle.archive.proofs.form.write_form.Goals as goal
 
 pub put_byte-at-requires : goal.put_byte-at-requires

@@ -1,11 +1,9 @@
 -- The seven pieces of a module, one behind another, are its form.
 use mathlib.Core.Path.{◌≡◌}
 use Prim.Native.Nat.{◌+◌, ◌-◌}
-use lib.ListN.{length}
 use Rattle.mcode.proofs.Lies.{name-lies}
 use Rattle.archive.proofs.Pieces.{name-stands, map-room, size_room, count_room, name-room, long-room, records-room, code-room, module-put}
 use native.Mathlib.Omega.{arith}
-use borrow.Author.Rules.{rules}
 use Rattle.archive.proofs.form.write_module.Goals as goal
 
 pub put_byte-a1-requires : goal.put_byte-a1-requires
@@ -18,7 +16,7 @@ pub put_count-a3-requires : goal.put_count-a3-requires
 put_count-a3-requires c = record { procs_bound = c.requires.lies.sound.few (λ i. omega (arith, c.type_inv.image i)); procs_in_bounds = count_room c.args.image.now c.args.begin c.args.m c.fields_of-f.result _ c.bit_map.ensures c.requires.lies c.fields_of-f.ensures (λ i. omega (arith, c.type_inv.image i)) c.args.at c.args.output.now c.requires.m_in_bounds _ _ c.put_byte-a1.ensures _ _ c.put_size-a2.ensures }
 
 pub put_name-a4-requires : goal.put_name-a4-requires
-put_name-a4-requires c = 
+put_name-a4-requires c =
     let a = c.args in record { le_table = λ n. name-lies a.image.now a.begin a.m c.requires.lies (name-stands a.image.now a.begin a.m c.fields_of-f.result _ c.bit_map.ensures c.requires.lies c.fields_of-f.ensures n); table_in_bounds = name-room c.args.image.now c.args.begin c.args.m c.fields_of-f.result _ c.bit_map.ensures c.requires.lies c.fields_of-f.ensures (λ i. omega (arith, c.type_inv.image i)) c.args.at c.args.output.now c.requires.m_in_bounds _ _ c.put_byte-a1.ensures _ _ c.put_size-a2.ensures _ _ c.put_count-a3.ensures }
 
 pub put_word-a5-requires : goal.put_word-a5-requires

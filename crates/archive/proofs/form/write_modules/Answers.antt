@@ -1,15 +1,13 @@
 -- The modules one behind another; the loop keeps that those before k were put.
 use mathlib.Core.Path.{◌≡◌, refl, subst}
-use Prim.Native.Nat.{ℕ, ◌-◌, ◌≤◌}
+use Prim.Native.Nat.{ℕ}
 use Rattle.mcode.specs.Word.{tabulate}
-use Rattle.mcode.specs.Image.{begin_of}
 use Rattle.mcode.specs.Archive.{content_of, modules_form}
 use Rattle.archive.specs.Form.{Put}
 use Rattle.mcode.proofs.Lies.{lies, begin-next}
 use Rattle.archive.proofs.Modules.{room_next, put_next}
 use Rattle.archive.proofs.Puts.{put-none, put-length}
 use native.Mathlib.Omega.{arith}
-use borrow.Author.Rules.{rules}
 use Rattle.archive.proofs.form.write_modules.Goals as goal
 
 pub loop-k-init : goal.loop-k-init

@@ -1,14 +1,9 @@
-use mathlib.Core.Path.{◌≡◌, refl, subst}
-use Prim.Native.Nat.{ℕ, ◌-◌, ◌≤◌}
+use mathlib.Core.Path.{◌≡◌}
+use Prim.Native.Nat.{◌-◌, ◌≤◌}
 use Rattle.mcode.specs.Word.{tabulate}
 use Rattle.mcode.specs.Image.{begin_of}
 use Rattle.mcode.specs.Archive.{content_of, modules_form}
 use Rattle.archive.specs.Form.{Put}
-use Rattle.mcode.proofs.Lies.{lies, begin-next}
-use Rattle.archive.proofs.Modules.{room_next, put_next}
-use Rattle.archive.proofs.Puts.{put-none, put-length}
-use native.Mathlib.Omega.{arith}
-use borrow.Author.Rules.{rules}
 use Rattle.archive.proofs.form.write_modules.Given as goal
 
 abbrev pub invariant-loop-k : goal.invariant-loop-k

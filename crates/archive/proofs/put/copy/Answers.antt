@@ -1,11 +1,10 @@
 -- All bytes are put; the loop keeps that those left give the same output.
 use mathlib.Core.Path.{◌≡◌, refl, sym, ap, ◌∙◌}
-use Prim.Native.Nat.{ℕ, ◌+◌, ◌-◌, ◌≤◌}
-use lib.ListN.{length, drop, get_or, length-set}
+use Prim.Native.Nat.{ℕ, ◌+◌}
+use lib.ListN.{get_or, length-set}
 use Rattle.mcode.specs.Step.{written}
 use Rattle.mcode.proofs.Writes.{next-written, none_written}
 use native.Mathlib.Omega.{arith}
-use borrow.Author.Rules.{rules}
 use Rattle.archive.proofs.put.copy.Goals as goal
 
 pub loop-i-init : goal.loop-i-init

@@ -1,7 +1,6 @@
 -- One byte is put.
 use mathlib.Core.Path.{refl}
 use Rattle.mcode.specs.Step.{written}
-use borrow.Author.Rules.{rules}
 use Rattle.archive.proofs.put.put_byte.Goals as goal
 
 pub returns : goal.returns

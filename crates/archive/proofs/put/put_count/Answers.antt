@@ -1,6 +1,5 @@
 -- The count is put where its bit stands.
 use Rattle.archive.proofs.Puts.{put-none}
-use borrow.Author.Rules.{rules}
 use Rattle.archive.proofs.put.put_count.Goals as goal
 
 pub put_byte-requires : goal.put_byte-requires

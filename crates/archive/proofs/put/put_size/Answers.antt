@@ -1,6 +1,5 @@
 -- The data size is put where its bit stands.
 use Rattle.archive.proofs.Puts.{put-none}
-use borrow.Author.Rules.{rules}
 use Rattle.archive.proofs.put.put_size.Goals as goal
 
 pub put_word-requires : goal.put_word-requires

@@ -3,7 +3,6 @@ use mathlib.Core.Path.{refl}
 use lib.ListN.{length-set}
 use Rattle.mcode.specs.Step.{written}
 use native.Mathlib.Omega.{arith}
-use borrow.Author.Rules.{rules}
 use Rattle.archive.proofs.put.put_word.Goals as goal
 
 pub bounds-output-at-2 : goal.bounds-output-at-2

@@ -1,9 +1,8 @@
-use mathlib.Core.Path.{◌≡◌, refl}
-use Prim.Native.Nat.{◌+◌, ◌-◌}
+use mathlib.Core.Path.{refl}
+use Prim.Native.Nat.{◌+◌}
 use Rattle.compare.specs.Facts.{code_facts}
-use Rattle.compare.proofs.Lists.{Left, left-all, left_end, left-found, left-next}
+use Rattle.compare.proofs.Lists.{left-all, left_end, left-found, left-next}
 use native.Mathlib.Omega.{arith}
-use borrow.Author.Rules.{rules}
 use Rattle.compare.proofs.modules.codes.Goals as goal
 
 pub loop-p-init : goal.loop-p-init

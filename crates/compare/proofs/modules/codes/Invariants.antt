@@ -1,9 +1,7 @@
-use mathlib.Core.Path.{◌≡◌, refl}
-use Prim.Native.Nat.{◌+◌, ◌-◌}
+use mathlib.Core.Path.{◌≡◌}
+use Prim.Native.Nat.{◌-◌}
 use Rattle.compare.specs.Facts.{code_facts}
-use Rattle.compare.proofs.Lists.{Left, left-all, left_end, left-found, left-next}
-use native.Mathlib.Omega.{arith}
-use borrow.Author.Rules.{rules}
+use Rattle.compare.proofs.Lists.{Left}
 use Rattle.compare.proofs.modules.codes.Given as goal
 
 abbrev pub invariant-loop-p : goal.invariant-loop-p

@@ -1,11 +1,8 @@
-use mathlib.Core.Path.{◌≡◌, refl}
-use Prim.Native.Nat.{◌-◌}
-use Rattle.mcode.specs.Image.{begin_of}
+use mathlib.Core.Path.{refl}
 use Rattle.compare.specs.Facts.{facts_at}
-use Rattle.compare.proofs.Lists.{Left, left-all, left_end, left-found, left-next}
+use Rattle.compare.proofs.Lists.{left-all, left_end, left-found, left-next}
 use Rattle.mcode.proofs.Lies.{lies, begin-next}
 use native.Mathlib.Omega.{arith}
-use borrow.Author.Rules.{rules}
 use Rattle.compare.proofs.modules.modules.Goals as goal
 
 pub loop-k-init : goal.loop-k-init

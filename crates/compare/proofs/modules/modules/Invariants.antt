@@ -1,11 +1,8 @@
-use mathlib.Core.Path.{◌≡◌, refl}
+use mathlib.Core.Path.{◌≡◌}
 use Prim.Native.Nat.{◌-◌}
 use Rattle.mcode.specs.Image.{begin_of}
 use Rattle.compare.specs.Facts.{facts_at}
-use Rattle.compare.proofs.Lists.{Left, left-all, left_end, left-found, left-next}
-use Rattle.mcode.proofs.Lies.{lies, begin-next}
-use native.Mathlib.Omega.{arith}
-use borrow.Author.Rules.{rules}
+use Rattle.compare.proofs.Lists.{Left}
 use Rattle.compare.proofs.modules.modules.Given as goal
 
 abbrev pub invariant-loop-k : goal.invariant-loop-k

@@ -1,7 +1,5 @@
-use Prim.Native.Nat.{◌-◌}
 use mathlib.Core.Path.{◌∙◌}
 use Rattle.compare.proofs.Pieces.{name-none, name-lies, name-some}
-use borrow.Author.Rules.{rules}
 use Rattle.compare.proofs.modules.name_byte.Goals as goal
 
 pub returns-then-byte_at-eq0 : goal.returns-then-byte_at-eq0

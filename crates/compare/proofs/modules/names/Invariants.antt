@@ -1,9 +1,6 @@
-use mathlib.Core.Path.{refl}
 use Prim.Native.Nat.{◌-◌}
 use Rattle.compare.specs.Facts.{name_facts}
-use Rattle.compare.proofs.Lists.{Left, left-all, left_end, left-found, left-next}
-use native.Mathlib.Omega.{arith}
-use borrow.Author.Rules.{rules}
+use Rattle.compare.proofs.Lists.{Left}
 use Rattle.compare.proofs.modules.names.Given as goal
 
 abbrev pub invariant-loop-i : goal.invariant-loop-i

@@ -1,6 +1,5 @@
 use Rattle.compare.specs.Facts.{module_facts}
 use Rattle.compare.proofs.Lists.{value-equal, compared-found, compared-both}
-use borrow.Author.Rules.{rules}
 use Rattle.compare.proofs.modules.one_module.Goals as goal
 
 pub returns-then-sizes : goal.returns-then-sizes

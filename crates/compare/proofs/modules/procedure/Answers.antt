@@ -1,6 +1,5 @@
 use Rattle.compare.proofs.Lists.{compared-found, compared-both}
 use native.Mathlib.Omega.{arith}
-use borrow.Author.Rules.{rules}
 use Rattle.compare.proofs.modules.procedure.Goals as goal
 
 pub returns-then-entries : goal.returns-then-entries

@@ -1,10 +1,7 @@
-use mathlib.Core.Path.{◌≡◌}
-use Prim.Native.Nat.{◌-◌, ◌<◌}
 use Rattle.mcode.specs.Image.{proc_count}
 use Rattle.compare.specs.Facts.{procedure_facts}
-use Rattle.compare.proofs.Lists.{Left, left-all, left_end, left-found, left-next}
+use Rattle.compare.proofs.Lists.{left-all, left_end, left-found, left-next}
 use native.Mathlib.Omega.{arith}
-use borrow.Author.Rules.{rules}
 use Rattle.compare.proofs.modules.procedures.Goals as goal
 
 pub loop-i-init : goal.loop-i-init

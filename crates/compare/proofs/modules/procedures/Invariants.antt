@@ -2,9 +2,7 @@ use mathlib.Core.Path.{◌≡◌}
 use Prim.Native.Nat.{◌-◌, ◌<◌}
 use Rattle.mcode.specs.Image.{proc_count}
 use Rattle.compare.specs.Facts.{procedure_facts}
-use Rattle.compare.proofs.Lists.{Left, left-all, left_end, left-found, left-next}
-use native.Mathlib.Omega.{arith}
-use borrow.Author.Rules.{rules}
+use Rattle.compare.proofs.Lists.{Left}
 use Rattle.compare.proofs.modules.procedures.Given as goal
 
 abbrev pub invariant-loop-i : goal.invariant-loop-i

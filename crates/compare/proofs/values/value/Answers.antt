@@ -1,5 +1,4 @@
 use Rattle.compare.proofs.Lists.{value_same, value-other}
-use borrow.Author.Rules.{rules}
 use Rattle.compare.proofs.values.value.Goals as goal
 
 pub returns-then-first-second : goal.returns-then-first-second

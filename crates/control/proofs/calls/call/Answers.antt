@@ -3,7 +3,6 @@ use Rattle.actions.proofs.Laws.{stays-as}
 use Rattle.control.proofs.Laws.{stays-framed, from_start, after-start}
 use native.Mathlib.Omega.{arith}
 use borrow.Author.Tests.{lt-ltb, le-ltb}
-use borrow.Author.Rules.{rules}
 use Rattle.control.proofs.calls.call.Goals as goal
 
 pub returns-then-h-s : goal.returns-then-h-s

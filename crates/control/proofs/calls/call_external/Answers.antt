@@ -2,7 +2,6 @@ use Rattle.mcode.specs.Step.{perform_of, call}
 use Rattle.control.proofs.Laws.{based, anchored-in, anchored-as, from_start}
 use native.Mathlib.Omega.{arith}
 use borrow.Author.Tests.{lt-ltb, le-ltb}
-use borrow.Author.Rules.{rules}
 use Rattle.control.proofs.calls.call_external.Goals as goal
 
 pub returns-then-h-s : goal.returns-then-h-s

@@ -1,6 +1,5 @@
 use lib.ListN.{length-set}
 use native.Mathlib.Omega.{arith}
-use borrow.Author.Rules.{rules}
 use Rattle.control.proofs.calls.write_frame.Goals as goal
 
 pub bounds-store-s-2 : goal.bounds-store-s-2

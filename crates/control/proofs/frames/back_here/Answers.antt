@@ -4,7 +4,6 @@ use Rattle.actions.proofs.Laws.{stays-as}
 use Rattle.control.proofs.Laws.{stays-framed, from_start, after-start}
 use Rattle.control.proofs.Find.{standing-in}
 use native.Mathlib.Omega.{arith}
-use borrow.Author.Rules.{rules}
 use Rattle.control.proofs.frames.back_here.Goals as goal
 
 pub overflow_add-r : goal.overflow_add-r

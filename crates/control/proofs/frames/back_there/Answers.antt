@@ -2,7 +2,6 @@ use mathlib.Core.Path.{sym, ◌∙◌}
 use Rattle.mcode.specs.Step.{back_to}
 use Rattle.control.proofs.Laws.{anchored-in, anchored-as, from_start}
 use Rattle.control.proofs.Find.{find-stands, find, stands-few}
-use borrow.Author.Rules.{rules}
 use Rattle.control.proofs.frames.back_there.Goals as goal
 
 pub in_module-requires : goal.in_module-requires

@@ -2,7 +2,6 @@ use Rattle.mcode.specs.Step.{perform_of}
 use Rattle.actions.proofs.Laws.{stays-as}
 use Rattle.control.proofs.Laws.{stays-framed}
 use borrow.Author.Tests.{lt-ltb, le-ltb}
-use borrow.Author.Rules.{rules}
 use Rattle.control.proofs.frames.enter.Goals as goal
 
 pub returns-then-h-s : goal.returns-then-h-s

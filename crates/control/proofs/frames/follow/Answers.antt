@@ -1,10 +1,8 @@
-use mathlib.Core.Path.{◌≡◌, refl, ◌∙◌}
-use Prim.Native.Nat.{◌≤◌}
-use Rattle.mcode.specs.Step.{perform_of, followed}
+use mathlib.Core.Path.{refl, ◌∙◌}
+use Rattle.mcode.specs.Step.{perform_of}
 use Rattle.actions.proofs.Laws.{stays-as}
 use Rattle.control.proofs.Chain.{chain-on, chain-off, chain-end}
 use native.Mathlib.Omega.{arith}
-use borrow.Author.Rules.{rules}
 use Rattle.control.proofs.frames.follow.Goals as goal
 
 pub loop-left-init : goal.loop-left-init

@@ -1,10 +1,6 @@
-use mathlib.Core.Path.{◌≡◌, refl, ◌∙◌}
+use mathlib.Core.Path.{◌≡◌}
 use Prim.Native.Nat.{◌≤◌}
-use Rattle.mcode.specs.Step.{perform_of, followed}
-use Rattle.actions.proofs.Laws.{stays-as}
-use Rattle.control.proofs.Chain.{chain-on, chain-off, chain-end}
-use native.Mathlib.Omega.{arith}
-use borrow.Author.Rules.{rules}
+use Rattle.mcode.specs.Step.{followed}
 use Rattle.control.proofs.frames.follow.Given as goal
 
 abbrev pub invariant-loop-left : goal.invariant-loop-left

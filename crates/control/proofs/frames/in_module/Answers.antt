@@ -1,5 +1,4 @@
 use native.Mathlib.Omega.{arith}
-use borrow.Author.Rules.{rules}
 use Rattle.control.proofs.frames.in_module.Goals as goal
 
 pub overflow_add-start : goal.overflow_add-start

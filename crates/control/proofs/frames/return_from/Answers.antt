@@ -1,7 +1,6 @@
 use Rattle.mcode.specs.Step.{perform_of, returned}
 use Rattle.control.proofs.Laws.{anchored-as, anchored-on}
 use borrow.Author.Tests.{ne_eqb, lt-ltb, le-ltb, eq-eqb}
-use borrow.Author.Rules.{rules}
 use Rattle.control.proofs.frames.return_from.Goals as goal
 
 pub returns-then-r : goal.returns-then-r

@@ -1,7 +1,7 @@
 use mathlib.Core.Path.{refl, sym}
 use native.Mathlib.Omega.{arith}
 use Rattle.mcode.proofs.Requests.{none_below, highest-bit}
-use Rattle.control.proofs.Weights.{Searching, next}
+use Rattle.control.proofs.Weights.{next}
 use Rattle.control.proofs.lines.highest_line.Goals as goal
 
 pub returns-then-w-lt256 : goal.returns-then-w-lt256

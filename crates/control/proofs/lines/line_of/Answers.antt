@@ -1,7 +1,6 @@
 use mathlib.Core.Path.{sym, ◌∙◌}
 use native.Mathlib.Omega.{arith}
 use lib.Bits.{or_lt}
-use borrow.Author.Rules.{rules}
 use Rattle.mcode.proofs.Requests.{open-lines}
 use Rattle.control.proofs.lines.line_of.Goals as goal
 

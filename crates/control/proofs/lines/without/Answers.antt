@@ -1,5 +1,4 @@
 use native.Mathlib.Omega.{arith}
-use borrow.Author.Rules.{rules}
 use Rattle.mcode.proofs.Bits.{weight-below}
 use Rattle.control.proofs.Weights.{shifted}
 use Rattle.control.proofs.lines.without.Goals as goal

@@ -1,7 +1,6 @@
 use mathlib.Core.Path.{refl}
 use native.Mathlib.Omega.{arith}
 use borrow.Author.Tests.{ne_eqb, eq-eqb}
-use borrow.Author.Rules.{rules}
 use Rattle.control.proofs.rows.after_call.Goals as goal
 
 pub returns-then-op-eq240 : goal.returns-then-op-eq240

@@ -1,5 +1,4 @@
 use borrow.Author.Tests.{ne_eqb, eq-eqb}
-use borrow.Author.Rules.{rules}
 use Rattle.control.proofs.rows.callee.Goals as goal
 
 pub operand-requires : goal.operand-requires

@@ -5,11 +5,10 @@ use Rattle.actions.specs.Core.{performed, instruction}
 use Rattle.control.proofs.Laws.{anchored-as, anchored-on}
 use Rattle.control.proofs.Decoded.{follow_one, is353, is356}
 use native.Mathlib.Omega.{arith}
-use borrow.Author.Rules.{rules}
 use Rattle.control.proofs.rows.row14.Goals as goal
 
 pub return_from-requires : goal.return_from-requires
-return_from-requires c =  let k = c.requires.controls (λ e. omega (arith, c.if-op-eq236.true, e)) in record { mapped = k.1; framed = k.0.framed; anchored = c.requires.anchored; start_bound = omega (arith, k.0.ready.own, k.0.ready.near) }
+return_from-requires c = let k = c.requires.controls (λ e. omega (arith, c.if-op-eq236.true, e)) in record { mapped = k.1; framed = k.0.framed; anchored = c.requires.anchored; start_bound = omega (arith, k.0.ready.own, k.0.ready.near) }
 
 pub returns-then-op-eq236 : goal.returns-then-op-eq236
 unfolding performed instruction decode_of row14
@@ -28,7 +27,7 @@ overflow_add-r c = let k = c.requires.controls (λ e. omega (arith, c.in-237.is,
 
 pub call_external-requires : goal.call_external-requires
 unfolding takens lefts lengths
-call_external-requires c = 
+call_external-requires c =
     let k = c.requires.controls (λ e. omega (arith, c.in-237.is, e)) in
     let f = k.0.far c.in-237.is in
     record { entered = k.0.entered; framed = k.0.framed; anchored = c.requires.anchored; k_bound = rw (c.operand.ensures.0, c.operand-in-237.ensures.0) (f.0, f.1, omega (arith, k.0.ready.own), omega (arith, rw c.in-237.is at k.0.inside, k.0.ready.own)) }
@@ -42,7 +41,7 @@ overflow_add-r-in_default c = let k = c.requires.controls (λ e. omega (arith, c
 
 pub call_linked-requires : goal.call_linked-requires
 unfolding takens lefts lengths
-call_linked-requires c = 
+call_linked-requires c =
     let k = c.requires.controls (λ e. omega (arith, c.if-op-gt236.true, e)) in
     let q = is356 _ c.requires.op_value k.2 c.if-op-gt236.true c.in_default.in_default-own.rest in
     record { entered = k.0.entered; framed = k.0.framed; n_bound = rw c.operand-in_default.ensures.0 (k.0.near (inl q), omega (arith, k.0.ready.own, k.0.ready.near), omega (arith, k.0.ready.own), omega (arith, k.0.inside, k.0.ready.own), omega (arith, rw q at k.0.ready)) }

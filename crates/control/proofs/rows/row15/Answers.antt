@@ -3,7 +3,6 @@ use Rattle.actions.specs.Core.{instruction}
 use Rattle.control.proofs.Laws.{anchored-on}
 use Rattle.control.proofs.Decoded.{decoded-call, callee-exists}
 use native.Mathlib.Omega.{arith}
-use borrow.Author.Rules.{rules}
 use Rattle.control.proofs.rows.row15.Goals as goal
 
 pub callee-n-requires : goal.callee-n-requires

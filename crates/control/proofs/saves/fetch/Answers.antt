@@ -2,7 +2,6 @@ use Rattle.mcode.specs.Step.{perform_of, stack_fetched}
 use Rattle.actions.proofs.Laws.{stays-as}
 use Rattle.control.proofs.Laws.{stays-framed, mark-in}
 use borrow.Author.Tests.{ne_eqb, lt-ltb, le-ltb, eq-eqb}
-use borrow.Author.Rules.{rules}
 use Rattle.control.proofs.saves.fetch.Goals as goal
 
 pub returns-then-s-n : goal.returns-then-s-n

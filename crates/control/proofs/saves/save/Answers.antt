@@ -2,7 +2,6 @@ use Rattle.mcode.specs.Step.{perform_of, stack_saved}
 use Rattle.actions.proofs.Laws.{stays-as}
 use Rattle.control.proofs.Laws.{stays-framed}
 use borrow.Author.Tests.{lt-ltb, le-ltb}
-use borrow.Author.Rules.{rules}
 use Rattle.control.proofs.saves.save.Goals as goal
 
 pub returns-then-r-top : goal.returns-then-r-top

@@ -1,4 +1,3 @@
-use borrow.Author.Rules.{rules}
 use Rattle.control.proofs.saves.save_stack.Goals as goal
 
 pub returns : goal.returns

@@ -1,10 +1,7 @@
-use mathlib.Core.Path.{◌≡◌, refl, sym, ◌∙◌}
+use mathlib.Core.Path.{◌≡◌}
 use Prim.Native.Nat.{◌+◌, ◌≤◌}
-use lib.ListN.{length, length-set}
+use lib.ListN.{length}
 use Rattle.mcode.specs.Step.{saved}
-use Rattle.control.proofs.Words.{saved-on, saved-all}
-use native.Mathlib.Omega.{arith}
-use borrow.Author.Rules.{rules}
 use Rattle.control.proofs.saves.save_words.Given as goal
 
 abbrev pub invariant-loop-n : goal.invariant-loop-n

@@ -1,6 +1,5 @@
 use native.Mathlib.Omega.{arith}
 use borrow.Author.Tests.{ne_eqb, eq-eqb}
-use borrow.Author.Rules.{rules}
 use Rattle.control.proofs.table.entry_of.Goals as goal
 
 pub returns-then-number-eq0 : goal.returns-then-number-eq0

@@ -1,10 +1,7 @@
 use native.Mathlib.Nat.{sub-zero}
-use mathlib.Core.Path.{◌≡◌, refl, sym, ◌∙◌}
-use Prim.Native.Nat.{◌≤◌, ◌-◌}
-use Rattle.control.specs.Table.{count_in, first_from, first_based}
+use mathlib.Core.Path.{refl, sym, ◌∙◌}
 use Rattle.control.proofs.Find.{first-here, first_on, first-none}
 use native.Mathlib.Omega.{arith}
-use borrow.Author.Rules.{rules}
 use Rattle.control.proofs.table.find_base.Goals as goal
 
 pub loop-k-init : goal.loop-k-init

@@ -1,10 +1,6 @@
-use native.Mathlib.Nat.{sub-zero}
-use mathlib.Core.Path.{◌≡◌, refl, sym, ◌∙◌}
+use mathlib.Core.Path.{◌≡◌}
 use Prim.Native.Nat.{◌≤◌, ◌-◌}
 use Rattle.control.specs.Table.{count_in, first_from, first_based}
-use Rattle.control.proofs.Find.{first-here, first_on, first-none}
-use native.Mathlib.Omega.{arith}
-use borrow.Author.Rules.{rules}
 use Rattle.control.proofs.table.find_base.Given as goal
 
 abbrev pub invariant-loop-k : goal.invariant-loop-k

@@ -3,7 +3,6 @@ use mathlib.Core.Path.{refl}
 use Rattle.mcode.specs.Depths.{marked}
 use native.Mathlib.Omega.{arith}
 use borrow.Author.Tests.{le-leb, lt-ltb, le-ltb}
-use borrow.Author.Rules.{rules}
 use Rattle.control.proofs.table.stands.Goals as goal
 
 pub returns-then-count_of-k : goal.returns-then-count_of-k

@@ -2,7 +2,6 @@ use mathlib.Core.Path.{sym, ◌∙◌}
 use native.Mathlib.Omega.{arith}
 use Rattle.mcode.specs.Step.{process_at}
 use Rattle.control.proofs.Process.{sizes, not_so, caught-few, caught-fits, trapped-in, trapped-not, anchored-resumed}
-use borrow.Author.Rules.{rules}
 use Rattle.control.proofs.transfer.catch_trap.Goals as goal
 
 pub returns-then-k-eq-MOST_MODULES : goal.returns-then-k-eq-MOST_MODULES

@@ -1,7 +1,6 @@
 use native.Mathlib.Omega.{arith}
 use borrow.Author.Tests.{le-leb, lt-leb, eq-eqb, ne_eqb}
 use Rattle.control.specs.Transfer.{catcher_in}
-use borrow.Author.Rules.{rules}
 use Rattle.control.proofs.transfer.catcher.Goals as goal
 
 pub returns-then-number-lt32 : goal.returns-then-number-lt32

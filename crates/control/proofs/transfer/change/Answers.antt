@@ -1,6 +1,5 @@
 use native.Mathlib.Omega.{arith}
 use Rattle.control.proofs.Process.{sizes}
-use borrow.Author.Rules.{rules}
 use Rattle.control.proofs.transfer.change.Goals as goal
 
 pub word_at-s-requires : goal.word_at-s-requires

@@ -1,7 +1,6 @@
 use mathlib.Core.Path.{refl}
 use Rattle.control.specs.Transfer.{sized}
 use borrow.Author.Tests.{lt-ltb, le-ltb, le-leb, lt-leb}
-use borrow.Author.Rules.{rules}
 use Rattle.control.proofs.transfer.is_sized.Goals as goal
 
 pub returns-then-w-q : goal.returns-then-w-q

@@ -1,7 +1,6 @@
 use mathlib.Core.Path.{refl}
 use Rattle.control.proofs.Process.{sizes}
 use native.Mathlib.Omega.{arith}
-use borrow.Author.Rules.{rules}
 use Rattle.control.proofs.transfer.resume.Goals as goal
 
 pub word_at-at-requires : goal.word_at-at-requires

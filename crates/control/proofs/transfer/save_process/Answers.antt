@@ -1,7 +1,6 @@
 use lib.ListN.{length-set}
 use Rattle.mcode.specs.Step.{saved_store}
 use native.Mathlib.Omega.{arith}
-use borrow.Author.Rules.{rules}
 use Rattle.control.proofs.transfer.save_process.Goals as goal
 
 pub overflow_sub-to : goal.overflow_sub-to

@@ -1,9 +1,7 @@
 use mathlib.Core.Path.{sym, ◌∙◌}
-use borrow.Author.Tests.{not-true, not-false}
 use native.Mathlib.Omega.{arith}
 use Rattle.control.specs.Transfer.{target_in}
 use Rattle.control.proofs.Process.{sizes}
-use borrow.Author.Rules.{rules}
 use Rattle.control.proofs.transfer.target.Goals as goal
 
 pub returns-then-not-is_sized : goal.returns-then-not-is_sized

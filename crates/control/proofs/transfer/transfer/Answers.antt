@@ -5,7 +5,6 @@ use Rattle.actions.proofs.Laws.{stays_at}
 use Rattle.control.proofs.Laws.{anchored-as, anchored-on}
 use Rattle.control.proofs.Process.{not_so, target_fits, target-few, switched-in, switched-not, anchored-resumed}
 use borrow.Author.Tests.{ne_eqb, lt-ltb, le-ltb, eq-eqb}
-use borrow.Author.Rules.{rules}
 use Rattle.control.proofs.transfer.transfer.Goals as goal
 
 pub returns-then-store-a : goal.returns-then-store-a
@@ -28,7 +27,7 @@ pub overflow_sub-d : goal.overflow_sub-d
 overflow_sub-d c = omega (arith, c.requires.lt_depth.0)
 
 pub change-requires : goal.change-requires
-change-requires c = 
+change-requires c =
     let n = not_so c.target-k.ensures c.if-k-eq-MOST_MODULES.false in
     let f = c.requires.framed in
     record { k_lt_most_modules = (rw c.target-k.ensures (target-few _ _ _ _ c.requires.mapped n), target_fits _ _ _ _ n); roomy = (f.low, f.high, f.proc, f.short); d_bound = (omega (arith, f.most), c.if-store-c.false, c.requires.lt_depth.1, c.requires.lt_depth.2) }

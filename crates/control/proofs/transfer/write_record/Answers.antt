@@ -1,7 +1,6 @@
 use lib.ListN.{length-set}
 use Rattle.control.proofs.Process.{written-six}
 use native.Mathlib.Omega.{arith}
-use borrow.Author.Rules.{rules}
 use Rattle.control.proofs.transfer.write_record.Goals as goal
 
 pub bounds-store-p-2 : goal.bounds-store-p-2

@@ -1,6 +1,5 @@
 use Rattle.control.proofs.Laws.{from_start, after-start}
 use native.Mathlib.Omega.{arith}
-use borrow.Author.Rules.{rules}
 use Rattle.execute.proofs.steps.core_of.Goals as goal
 
 pub number-start-requires : goal.number-start-requires

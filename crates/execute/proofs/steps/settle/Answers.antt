@@ -1,5 +1,4 @@
 use Rattle.execute.proofs.Went.{settled-goes, settled-stops}
-use borrow.Author.Rules.{rules}
 use Rattle.execute.proofs.steps.settle.Goals as goal
 
 pub returns-then-s-eq0 : goal.returns-then-s-eq0

@@ -1,12 +1,11 @@
 use Rattle.execute.proofs.Whole.{unit-few, asks-step, after-step, channel-step, asks-settle, settled-step, near-after}
-use borrow.Author.Rules.{rules}
 use Rattle.execute.proofs.steps.step.Goals as goal
 
 pub core_of-r-requires : goal.core_of-r-requires
 core_of-r-requires c = unit-few c.requires.prepared _ c.requires.machine_value
 
 pub turn-s-requires : goal.turn-s-requires
-turn-s-requires c =  let a = asks-step c.requires.prepared _ c.requires.machine_value _ c.core_of-r.ensures.0 c.core_of-r.ensures.1 in record { asks = a.0; bound = (a.1, c.requires.inputs_len.0, c.requires.inputs_len.1) }
+turn-s-requires c = let a = asks-step c.requires.prepared _ c.requires.machine_value _ c.core_of-r.ensures.0 c.core_of-r.ensures.1 in record { asks = a.0; bound = (a.1, c.requires.inputs_len.0, c.requires.inputs_len.1) }
 
 pub settle-t-requires : goal.settle-t-requires
 settle-t-requires c =
@@ -19,6 +18,6 @@ machine_of-after-requires c =
     (c.settle-t.ensures.1.few, c.settle-t.ensures.1.own, near-after _ _ c.requires.prepared c.requires.machine_value c.requires.inputs_len.1 (settled-step _ _ c.requires.prepared c.requires.machine_value c.requires.inputs_len.1 c.turn-s.result c.settle-t.result e c.settle-t.ensures.0))
 
 pub returns : goal.returns
-returns c = 
+returns c =
     let e = after-step c.requires.prepared _ c.requires.machine_value _ c.core_of-r.ensures.0 c.core_of-r.ensures.1 _ _ _ c.turn-s.ensures.0 in
     record { outputs_after = rw c.machine_of-after.ensures (settled-step _ _ c.requires.prepared c.requires.machine_value c.requires.inputs_len.1 c.turn-s.result c.settle-t.result e c.settle-t.ensures.0); channels_value = channel-step c.requires.prepared _ c.requires.machine_value _ c.core_of-r.ensures.0 c.core_of-r.ensures.1 _ _ _ e c.turn-s.ensures.1 }

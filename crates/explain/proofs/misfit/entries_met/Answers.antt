@@ -1,10 +1,6 @@
 -- The loop keeps that the best place is one.
-use Prim.Native.Nat.{◌-◌}
-use Rattle.mcode.specs.declared.Program.{Program}
-use Rattle.explain.specs.Reason.{AtPlace}
 use Rattle.explain.proofs.Places.{lower-place}
 use native.Mathlib.Omega.{arith}
-use borrow.Author.Rules.{rules}
 use Rattle.explain.proofs.misfit.entries_met.Goals as goal
 
 pub loop-i-init : goal.loop-i-init
@@ -14,7 +10,7 @@ pub entry_of-q-requires : goal.entry_of-q-requires
 entry_of-q-requires c = (omega (arith, c.proc_count-n.ensures.1), c.requires.0.near)
 
 pub entry_mark-d-requires : goal.entry_mark-d-requires
-entry_mark-d-requires c = 
+entry_mark-d-requires c =
     let S = c.requires.0 in
     let l = rw c.proc_count-n.ensures.0 at c.loop-i-test.true in
     record { i_bound = (omega (arith, c.proc_count-n.ensures.1), S.near); i_bound_2 = (S.params _ l, S.results _ l) }

@@ -1,9 +1,6 @@
 use Prim.Native.Nat.{◌-◌}
 use Rattle.mcode.specs.declared.Program.{Program}
 use Rattle.explain.specs.Reason.{AtPlace}
-use Rattle.explain.proofs.Places.{lower-place}
-use native.Mathlib.Omega.{arith}
-use borrow.Author.Rules.{rules}
 use Rattle.explain.proofs.misfit.entries_met.Given as goal
 
 abbrev pub invariant-loop-i : goal.invariant-loop-i

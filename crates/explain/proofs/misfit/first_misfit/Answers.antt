@@ -1,6 +1,6 @@
 -- The first module that has a place; the loop keeps the lengths of the map and of the queue.
-use mathlib.Core.Path.{◌≡◌, refl, ◌∙◌}
-use Prim.Native.Nat.{ℕ, ◌-◌, ◌≤◌}
+use mathlib.Core.Path.{refl, ◌∙◌}
+use Prim.Native.Nat.{ℕ, ◌≤◌}
 use lib.ListN.{length, length-replicate}
 use Rattle.mcode.specs.Opcode.{lengths, takens, lefts}
 use Rattle.depths.specs.Cases.{kind_of, kinds_from, kinds}
@@ -10,7 +10,6 @@ use Rattle.depths.proofs.Whole.{from, to}
 use Rattle.loader.proofs.Fill.{more-kept}
 use Rattle.explain.proofs.Places.{found-so}
 use native.Mathlib.Omega.{arith}
-use borrow.Author.Rules.{rules}
 use Rattle.explain.proofs.misfit.first_misfit.Goals as goal
 
 pub records_of-records-requires : goal.records_of-records-requires
@@ -48,18 +47,21 @@ overflow_cast-k c = omega (arith, c.requires.told.small, c.loop-k-test.true)
 
 pub module_misfit-why-requires : goal.module_misfit-why-requires
 unfolding lengths takens lefts kind_of kinds_from kinds
-module_misfit-why-requires c = 
+module_misfit-why-requires c =
     let P = c.args.program in
     let k = c.loop-k.k in
     let S = c.requires.told.laid.sound k c.loop-k-test.true in
-    let long : to P k ≤ length c.loop-k.map = omega (arith, c.requires.told.laid.behind k c.loop-k-test.true, c.requires.image_in_bounds, c.loop-k.invariant.0) in record { ready = record {
+    let long : to P k ≤ length c.loop-k.map = omega (arith, c.requires.told.laid.behind k c.loop-k-test.true, c.requires.image_in_bounds, c.loop-k.invariant.0) in record {
+      ready = record {
         sound = S;
         placed = placed c.args.image.now P _ _ c.records_of-records.ensures c.requires.told;
         sizes-are = refl;
         takes-are = refl;
         leaves-are = refl;
         kinds-are = refl;
-      }; map_len = (length_part c.loop-k.map (from P k) (to P k) long ∙ omega arith, omega (arith, S.short, c.loop-k.invariant.1)) }
+      };
+      map_len = (length_part c.loop-k.map (from P k) (to P k) long ∙ omega arith, omega (arith, S.short, c.loop-k.invariant.1));
+    }
 
 pub shape_of-map-then-place_of-lt65536 : goal.shape_of-map-then-place_of-lt65536
 shape_of-map-then-place_of-lt65536 c =

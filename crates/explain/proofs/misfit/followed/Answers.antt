@@ -2,13 +2,6 @@
 use mathlib.Core.Path.{sym, ◌∙◌}
 use Rattle.depths.specs.Lent.{light_of}
 use Rattle.explain.proofs.Places.{lower-place}
-use borrow.Author.Tests.{not-false}
-use borrow.Author.Rules.{rules}
-use Rattle.depths.proofs.rules.flow_at.Reads as flow-at-reads
-use Rattle.explain.proofs.misfit.forbidden.Reads as forbidden-reads
-use Rattle.explain.proofs.misfit.lower.Reads as lower-reads
-use Rattle.explain.proofs.misfit.met.Reads as met-reads
-use Rattle.marks.proofs.is_mark.Reads as is-mark-reads
 use Rattle.explain.proofs.misfit.followed.Goals as goal
 
 pub flow_at-f-requires : goal.flow_at-f-requires

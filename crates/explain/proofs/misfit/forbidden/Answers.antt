@@ -3,11 +3,6 @@ use mathlib.Core.Path.{refl, ap₂, ◌∙◌}
 use Rattle.mcode.specs.Image.{code_byte}
 use Rattle.depths.specs.Lent.{light_of}
 use Rattle.explain.specs.Reason.{named_params}
-use borrow.Author.Rules.{rules}
-use Rattle.depths.proofs.rules.byte_at.Reads as byte-at-reads
-use Rattle.explain.proofs.misfit.params_at.Reads as params-at-reads
-use Rattle.marks.proofs.depth_of.Reads as depth-of-reads
-use Rattle.mcode.proofs.opcode.taken_of.Reads as taken-of-reads
 use Rattle.explain.proofs.misfit.forbidden.Goals as goal
 
 pub returns : goal.returns

@@ -1,7 +1,6 @@
 -- One of the two.
 use mathlib.Core.Path.{refl}
 use mathlib.Core.Logic.{inl, inr}
-use borrow.Author.Rules.{rules}
 use Rattle.explain.proofs.misfit.lower.Goals as goal
 
 pub returns-then-place_of : goal.returns-then-place_of

@@ -1,14 +1,7 @@
 -- The loop keeps that the best place is one.
-use Prim.Native.Nat.{◌-◌}
-use lib.ListN.{length}
 use Rattle.depths.specs.Lent.{light_of}
-use Rattle.explain.specs.Reason.{AtPlace}
 use Rattle.explain.proofs.Places.{lower-place}
 use native.Mathlib.Omega.{arith}
-use borrow.Author.Rules.{rules}
-use Rattle.explain.proofs.misfit.entries_met.Reads as entries-met-reads
-use Rattle.explain.proofs.misfit.followed.Reads as followed-reads
-use Rattle.explain.proofs.misfit.lower.Reads as lower-reads
 use Rattle.explain.proofs.misfit.lowest.Goals as goal
 
 pub entries_met-best-requires : goal.entries_met-best-requires

@@ -2,12 +2,6 @@ use Prim.Native.Nat.{◌-◌}
 use lib.ListN.{length}
 use Rattle.depths.specs.Lent.{light_of}
 use Rattle.explain.specs.Reason.{AtPlace}
-use Rattle.explain.proofs.Places.{lower-place}
-use native.Mathlib.Omega.{arith}
-use borrow.Author.Rules.{rules}
-use Rattle.explain.proofs.misfit.entries_met.Reads as entries-met-reads
-use Rattle.explain.proofs.misfit.followed.Reads as followed-reads
-use Rattle.explain.proofs.misfit.lower.Reads as lower-reads
 use Rattle.explain.proofs.misfit.lowest.Given as goal
 
 abbrev pub invariant-loop-p : goal.invariant-loop-p

@@ -1,7 +1,6 @@
 -- By the answer of the search.
 use mathlib.Core.Path.{refl}
 use mathlib.Core.Logic.{inl, inr}
-use borrow.Author.Rules.{rules}
 use Rattle.explain.proofs.misfit.module_misfit.Goals as goal
 
 pub returns-then-found : goal.returns-then-found

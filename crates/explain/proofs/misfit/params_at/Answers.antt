@@ -6,7 +6,6 @@ use Rattle.mcode.specs.Image.{params_of}
 use Rattle.depths.specs.Lent.{light}
 use Rattle.explain.proofs.Places.{params_none, params-far, params-near}
 use native.Mathlib.Omega.{arith}
-use borrow.Author.Rules.{rules}
 use Rattle.explain.proofs.misfit.params_at.Goals as goal
 
 pub returns-then-count-j : goal.returns-then-count-j

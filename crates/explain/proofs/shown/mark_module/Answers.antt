@@ -2,7 +2,6 @@
 use Rattle.loader.proofs.Begin.{read_told}
 use Rattle.explain.proofs.Notes.{refused-shown, missing-shown, long-shown, wide-shown, all_shown}
 use native.Mathlib.Omega.{arith}
-use borrow.Author.Rules.{rules}
 use Rattle.explain.proofs.shown.mark_module.Goals as goal
 
 pub returns-then-refusal-ge1 : goal.returns-then-refusal-ge1
@@ -24,7 +23,7 @@ pub returns-then-notes-length : goal.returns-then-notes-length
 returns-then-notes-length c = wide-shown _ _ c.read_image-parsed.ensures c.args.k c.args.map.now c.args.notes.now c.if-notes-length.true
 
 pub note_module-requires : goal.note_module-requires
-note_module-requires c = 
+note_module-requires c =
     let T = read_told _ _ c.read_image-parsed.ensures c.if-refusal-ge1.false in
     record { told = (T, T.laid.sound _ c.if-program-k.false); map_len = (c.if-map-length.false, c.if-notes-length.false) }
 

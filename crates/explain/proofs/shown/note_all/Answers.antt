@@ -1,10 +1,7 @@
 -- The loop keeps that the positions before p are shown.
-use Prim.Native.Nat.{◌-◌}
-use lib.ListN.{length}
 use Rattle.walk.specs.Set.{counted}
-use Rattle.explain.proofs.Notes.{Begun, begun, one_more}
+use Rattle.explain.proofs.Notes.{begun, one_more}
 use native.Mathlib.Omega.{arith}
-use borrow.Author.Rules.{rules}
 use Rattle.explain.proofs.shown.note_all.Goals as goal
 
 pub loop-p-init : goal.loop-p-init

@@ -1,9 +1,7 @@
 use Prim.Native.Nat.{◌-◌}
 use lib.ListN.{length}
 use Rattle.walk.specs.Set.{counted}
-use Rattle.explain.proofs.Notes.{Begun, begun, one_more}
-use native.Mathlib.Omega.{arith}
-use borrow.Author.Rules.{rules}
+use Rattle.explain.proofs.Notes.{Begun}
 use Rattle.explain.proofs.shown.note_all.Given as goal
 
 abbrev pub invariant-loop-p : goal.invariant-loop-p

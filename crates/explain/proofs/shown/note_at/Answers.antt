@@ -3,10 +3,6 @@ use mathlib.Core.Path.{refl, ap, ◌∙◌}
 use mathlib.Core.Logic.{inl, inr}
 use lib.ListN.{set}
 use Rattle.explain.specs.Shown.{cause_number}
-use borrow.Author.Rules.{rules}
-use Rattle.explain.proofs.shown.depth_mark.Reads as depth-mark-reads
-use Rattle.explain.proofs.shown.number_of.Reads as number-of-reads
-use Rattle.walk.proofs.causes.cause_at.Reads as cause-at-reads
 use Rattle.explain.proofs.shown.note_at.Goals as goal
 
 pub returns-then-notes-p : goal.returns-then-notes-p

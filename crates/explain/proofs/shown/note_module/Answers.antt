@@ -7,7 +7,6 @@ use Rattle.depths.specs.Cases.{kind_of, kinds_from, kinds}
 use Rattle.depths.proofs.Same.{placed}
 use Rattle.explain.proofs.Notes.{shown-so}
 use native.Mathlib.Omega.{arith}
-use borrow.Author.Rules.{rules}
 use Rattle.explain.proofs.shown.note_module.Goals as goal
 
 pub walk-requires : goal.walk-requires
@@ -16,14 +15,18 @@ walk-requires c = record { sound = c.requires.told.1; sizes_value = (refl, refl)
 
 pub find-requires : goal.find-requires
 unfolding lengths takens lefts kind_of kinds_from kinds
-find-requires c = record { ready = record {
+find-requires c = record {
+  ready = record {
     sound = c.requires.told.1;
     placed = placed c.args.image.now c.args.program _ _ c.records_of-records.ensures c.requires.told.0;
     sizes-are = refl;
     takes-are = refl;
     leaves-are = refl;
     kinds-are = refl;
-  }; map_len = c.requires.map_len.0; length_in_bounds = omega (arith, c.requires.told.1.short, length-replicate {A = ℕ} 32767 0, c.walk.auto.work) }
+  };
+  map_len = c.requires.map_len.0;
+  length_in_bounds = omega (arith, c.requires.told.1.short, length-replicate {A = ℕ} 32767 0, c.walk.auto.work);
+}
 
 pub note_all-requires : goal.note_all-requires
 unfolding lengths kind_of kinds_from kinds

@@ -1,11 +1,10 @@
 -- Every module's part is the fewest, or one module has none; the loop keeps what is filled so far.
 use mathlib.Core.Path.{◌≡◌, refl, ◌∙◌, subst}
-use Prim.Native.Nat.{ℕ, ◌-◌, ◌≤◌}
+use Prim.Native.Nat.{ℕ, ◌≤◌}
 use lib.ListN.{length}
-use borrow.Author.Tests.{not-true, not-false}
 use Rattle.mcode.specs.Opcode.{lengths, takens, lefts}
 use Rattle.mcode.specs.Image.{module_of}
-use Rattle.mcode.specs.Depths.{Analysis, Fewest, NoneFits, KeptPast}
+use Rattle.mcode.specs.Depths.{Analysis, Fewest, NoneFits}
 use Rattle.depths.specs.Cases.{kind_of, kinds_from, kinds}
 use Rattle.depths.specs.Lent.{depths_of}
 use Rattle.depths.proofs.Parts.{length_part}
@@ -13,7 +12,6 @@ use Rattle.depths.proofs.Same.{depths-same, placed}
 use Rattle.depths.proofs.Whole.{from, to}
 use Rattle.loader.proofs.Fill.{Filled, blank-marks, blank-kept, kept_trans, none_filled, more-kept, more-filled, accepted}
 use native.Mathlib.Omega.{arith}
-use borrow.Author.Rules.{rules}
 use Rattle.loader.proofs.load.check_all.Goals as goal
 
 pub records_of-records-requires : goal.records_of-records-requires
@@ -53,19 +51,23 @@ slice_bounds-check-end c = omega (arith, c.requires.told.laid.behind c.loop-k.k 
 
 pub check-ok-requires : goal.check-ok-requires
 unfolding lengths takens lefts kind_of kinds_from kinds
-check-ok-requires c = 
+check-ok-requires c =
     let P = c.args.program in
     let k = c.loop-k.k in
     let S = c.requires.told.laid.sound k c.loop-k-test.true in
     let K = blank-kept c.args.image.now c.args.map.now c.blank.new.map c.requires.image_in_bounds.0 c.blank.ensures in
-    let long : to P k ≤ length c.loop-k.map = omega (arith, c.requires.told.laid.behind k c.loop-k-test.true, c.requires.image_in_bounds.0, K.long, c.loop-k.invariant.1.long) in record { ready = record {
+    let long : to P k ≤ length c.loop-k.map = omega (arith, c.requires.told.laid.behind k c.loop-k-test.true, c.requires.image_in_bounds.0, K.long, c.loop-k.invariant.1.long) in record {
+      ready = record {
         sound = S;
         placed = placed c.args.image.now P _ _ c.records_of-records.ensures c.requires.told;
         sizes-are = refl;
         takes-are = refl;
         leaves-are = refl;
         kinds-are = refl;
-      }; map_len = length_part c.loop-k.map (from P k) (to P k) long ∙ omega arith; length_in_bounds = omega (arith, S.short, c.requires.image_in_bounds.1, c.loop-k.invariant.3) }
+      };
+      map_len = length_part c.loop-k.map (from P k) (to P k) long ∙ omega arith;
+      length_in_bounds = omega (arith, S.short, c.requires.image_in_bounds.1, c.loop-k.invariant.3);
+    }
 
 pub returns-then-not-ok : goal.returns-then-not-ok
 returns-then-not-ok c =

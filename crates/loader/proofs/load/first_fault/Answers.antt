@@ -1,12 +1,12 @@
 -- The first module at fault decides; the loop keeps that those before it are whole.
-use mathlib.Core.Path.{◌≡◌, refl, sym, ◌∙◌, subst}
-use Prim.Native.Nat.{ℕ, ◌-◌, ◌≤◌, ◌<◌}
+use mathlib.Core.Path.{refl, sym, ◌∙◌, subst}
+use Prim.Native.Nat.{ℕ, ◌≤◌}
 use lib.ListN.{length}
 use native.Mathlib.Nat.{not-suc-le-zero}
 use borrow.Author.Count.{below_more}
 use Rattle.mcode.specs.Opcode.{lengths}
 use Rattle.mcode.specs.Image.{module_of}
-use Rattle.mcode.specs.Depths.{Fewest, KeptPast}
+use Rattle.mcode.specs.Depths.{Fewest}
 use Rattle.mcode.specs.Walk.{walk, Whole}
 use Rattle.depths.specs.Cases.{kind_of, kinds_from, kinds}
 use Rattle.depths.proofs.Parts.{length_part}
@@ -14,7 +14,6 @@ use Rattle.depths.proofs.Whole.{from, to}
 use Rattle.loader.proofs.Fill.{kept_trans, more-kept, part-back}
 use Rattle.loader.proofs.Walked.{still-whole, broken-so, whole-so}
 use native.Mathlib.Omega.{arith}
-use borrow.Author.Rules.{rules}
 use Rattle.loader.proofs.load.first_fault.Goals as goal
 
 pub records_of-records-requires : goal.records_of-records-requires
@@ -49,7 +48,7 @@ slice_bounds-walk-end c = omega (arith, c.requires.told.laid.behind c.loop-k.k c
 
 pub walk-requires : goal.walk-requires
 unfolding lengths kind_of kinds_from kinds
-walk-requires c = 
+walk-requires c =
     let P = c.args.program in
     let k = c.loop-k.k in
     let S = c.requires.told.laid.sound k c.loop-k-test.true in
@@ -72,7 +71,7 @@ slice_bounds-lowest-end c =
 
 pub lowest-scan-requires : goal.lowest-scan-requires
 unfolding lengths kind_of kinds_from kinds
-lowest-scan-requires c = 
+lowest-scan-requires c =
     let image = c.args.image.now in
     let P = c.args.program in
     let k = c.loop-k.k in

@@ -1,7 +1,6 @@
 -- The answer of load is the one that the rules determine, from the answers of the reader and of the load of a program.
 use Rattle.loader.proofs.Answers.{refused-so, read-so}
 use Rattle.loader.proofs.Begin.{read_told}
-use borrow.Author.Rules.{rules}
 use Rattle.loader.proofs.load.load.Goals as goal
 
 pub returns-then-refusal-ge1 : goal.returns-then-refusal-ge1

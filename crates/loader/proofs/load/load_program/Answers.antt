@@ -4,7 +4,6 @@ use lib.ListN.{length-replicate}
 use Rattle.loader.proofs.Answers.{short-so, accepted-so, none_so}
 use Rattle.loader.proofs.Fill.{kept_trans}
 use native.Mathlib.Omega.{arith}
-use borrow.Author.Rules.{rules}
 use Rattle.loader.proofs.load.load_program.Goals as goal
 
 pub returns-then-map-image : goal.returns-then-map-image
@@ -17,7 +16,7 @@ pub returns-then-check_all : goal.returns-then-check_all
 returns-then-check_all c = accepted-so _ _ _ _ c.if-map-image.false _ c.answer-then-check_all.ensures (rw c.if-check_all.true at c.check_all.ensures)
 
 pub refused-requires : goal.refused-requires
-refused-requires c = 
+refused-requires c =
     let K = (rw c.if-check_all.false at c.check_all.ensures).1 in
     record { told = c.requires; image_in_bounds = (omega (arith, c.if-map-image.false, K.long), omega (arith, length-replicate {A = ℕ} 32767 0, c.check_all.auto.map)) }
 

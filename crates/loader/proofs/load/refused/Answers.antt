@@ -3,7 +3,6 @@ use Prim.Native.Nat.{◌≤◌}
 use lib.ListN.{length}
 use Rattle.loader.proofs.Fill.{blank-marks, blank-kept, kept_trans}
 use native.Mathlib.Omega.{arith}
-use borrow.Author.Rules.{rules}
 use Rattle.loader.proofs.load.refused.Goals as goal
 
 pub returns : goal.returns

@@ -1,16 +1,7 @@
-use mathlib.Core.Path.{◌≡◌, refl, sym, ap, ◌∙◌}
-use Prim.Native.Nat.{ℕ, ◌+◌, ◌≤◌, ◌<◌}
-use lib.ListN.{length, length-replicate}
 use Rattle.mcode.specs.Run.{start_machine, start_store}
 use Rattle.loader.proofs.Begin.{roomy, first_entry}
 use native.Mathlib.Omega.{arith}
-use borrow.Author.Tests.{ne_eqb, lt-ltb, le-ltb, le-leb, lt-leb, eq-eqb}
 use borrow.Author.Rules.{rules}
-use Rattle.depths.proofs.rules.entry_of.Reads as entry-of-reads
-use Rattle.loader.proofs.start.clear.Reads as clear_reads
-use Rattle.loader.proofs.start.copy_bases.Reads as copy-bases-reads
-use Rattle.loader.proofs.start.first_frame.Reads as first-frame-reads
-use Rattle.loader.proofs.start.machine_at.Reads as machine-at-reads
 use Rattle.loader.proofs.start.begin.Goals as goal
 
 pub copy_bases-requires : goal.copy_bases-requires

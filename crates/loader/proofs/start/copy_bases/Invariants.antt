@@ -1,14 +1,8 @@
-use mathlib.Core.Path.{◌≡◌, refl, sym, ap, ◌∙◌}
-use mathlib.Core.List.{List}
-use Prim.Native.Nat.{ℕ, ◌+◌, ◌-◌, ◌≤◌, ◌<◌}
-use lib.ListN.{length, get_or, set, take, drop, replicate, length-set, length-replicate, get_or-replicate}
-use lib.Seq.{get_or-set_same, get_or-set_other, ext_get_or}
-use native.Mathlib.Omega.{arith}
-use borrow.Author.Rules.{rules}
+use mathlib.Core.Path.{◌≡◌}
+use Prim.Native.Nat.{◌+◌, ◌-◌, ◌≤◌}
+use lib.ListN.{length, take, drop}
 use Rattle.mcode.specs.Image.{bases_of}
 use Rattle.mcode.specs.Step.{written}
-use Rattle.mcode.proofs.Writes.{next-written, none_written}
-use Rattle.loader.proofs.Bases.{bases-long, base-at}
 use Rattle.loader.proofs.start.copy_bases.Given as goal
 
 abbrev pub invariant-loop-k : goal.invariant-loop-k

@@ -1,9 +1,8 @@
-use lib.ListN.{length, set, length-set}
+use lib.ListN.{length-set}
 use mathlib.Core.Path.{◌≡◌}
-use Prim.Native.Nat.{ℕ, ◌+◌}
+use Prim.Native.Nat.{◌+◌}
 use native.Mathlib.Omega.{arith}
 use Rattle.mcode.specs.Step.{written}
-use borrow.Author.Rules.{rules}
 use Rattle.loader.proofs.start.first_frame.Goals as goal
 
 pub bounds-store-end-2 : goal.bounds-store-end-2

@@ -1,13 +1,5 @@
-use mathlib.Core.Path.{◌≡◌, refl, sym, ◌∙◌}
-use borrow.Author.Tests.{not-true, not-false}
+use mathlib.Core.Path.{sym, ◌∙◌}
 use Rattle.loader.proofs.Begin.{read_told, store-fits-so, refused-so, small-so, begun-so}
-use native.Mathlib.Omega.{arith}
-use borrow.Author.Tests.{ne_eqb, lt-ltb, le-ltb, le-leb, lt-leb, eq-eqb}
-use borrow.Author.Rules.{rules}
-use Rattle.loader.proofs.start.begin.Reads as begin-reads
-use Rattle.loader.proofs.start.store_fits.Reads as store-fits-reads
-use Rattle.loader.proofs.start.zero_machine.Reads as zero-machine-reads
-use Rattle.image.proofs.read_image.Reads as read-image-reads
 use Rattle.loader.proofs.start.start.Goals as goal
 
 pub returns-then-refusal-ge1 : goal.returns-then-refusal-ge1

@@ -8,7 +8,6 @@ use Rattle.actions.specs.Core.{instruction}
 use Rattle.control.proofs.Laws.{anchored-on}
 use mathlib.Core.Path.{sym, ◌∙◌}
 use native.Mathlib.Omega.{arith}
-use borrow.Author.Rules.{rules}
 use Rattle.rows_high.proofs.channels.row10.Goals as goal
 
 pub write-requires : goal.write-requires

@@ -6,7 +6,6 @@ use Rattle.mcode.specs.Step.{perform_of}
 use Rattle.mcode.specs.Word.{one_of, two_of, three_of}
 use Rattle.actions.specs.Core.{instruction}
 use native.Mathlib.Omega.{arith}
-use borrow.Author.Rules.{rules}
 use Rattle.rows_high.proofs.compared.row12.Goals as goal
 
 pub trap-requires : goal.trap-requires

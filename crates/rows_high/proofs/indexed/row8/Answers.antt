@@ -4,7 +4,6 @@ use Rattle.mcode.specs.Opcode.{takens, lefts, lengths}
 use Rattle.mcode.specs.Decode.{decode_of, row8}
 use Rattle.actions.specs.Core.{instruction}
 use native.Mathlib.Omega.{arith}
-use borrow.Author.Rules.{rules}
 use Rattle.rows_high.proofs.indexed.row8.Goals as goal
 
 pub operand-requires : goal.operand-requires

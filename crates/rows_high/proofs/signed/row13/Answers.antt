@@ -7,7 +7,6 @@ use Rattle.mcode.specs.Word.{one_of, two_of}
 use Rattle.actions.specs.Core.{instruction}
 use Rattle.actions.proofs.Laws.{stays_at}
 use native.Mathlib.Omega.{arith}
-use borrow.Author.Rules.{rules}
 use Rattle.rows_high.proofs.signed.row13.Goals as goal
 
 pub second_of-requires : goal.second_of-requires

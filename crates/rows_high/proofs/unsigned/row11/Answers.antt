@@ -6,7 +6,6 @@ use Rattle.mcode.specs.Step.{perform_of}
 use Rattle.mcode.specs.Word.{two_of}
 use Rattle.actions.specs.Core.{instruction}
 use native.Mathlib.Omega.{arith}
-use borrow.Author.Rules.{rules}
 use Rattle.rows_high.proofs.unsigned.row11.Goals as goal
 
 pub second_of-requires : goal.second_of-requires

@@ -7,7 +7,7 @@ use native.Mathlib.Omega.{arith}
 use lib.ListN.{length}
 use lib.Bits.{bit_or}
 use Rattle.mcode.specs.Machine.{State, Live, live, OutcomeOf, go, halt, leaving}
-use Rattle.mcode.specs.Step.{Lent, attempt_of, is_caught, trapped, step_of, attempt_read}
+use Rattle.mcode.specs.Step.{Lent, attempt_of, is_caught, trapped, attempt_read}
 use Rattle.mcode.specs.Run.{RunEnd, Tally, tally, tallied, after, run_n, lent_to, attempt_tally, step_tally}
 use Rattle.mcode.specs.Demands.{Preserves}
 use Rattle.mcode.specs.declared.Stop.{Stop}

@@ -2,7 +2,7 @@
 use Rattle.std.specs.Prelude.{◌≡◌, List, [], ◌∷◌, ℕ, ◌≤◌, length, leb}
 use Rattle.mcode.specs.Word.{pick}
 use Rattle.mcode.specs.Machine.{State, state}
-use Rattle.mcode.specs.Run.{RunLeft, start_of, Loads}
+use Rattle.mcode.specs.Run.{start_of, Loads}
 use Rattle.mcode.specs.Demands.{Request, answer, AllRuns}
 use Rattle.mcode.specs.declared.Verdict.{Verdict}
 use Rattle.engine.specs.declared.session.TwoRuns.{TwoRuns}

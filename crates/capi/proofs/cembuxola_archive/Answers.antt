@@ -6,7 +6,6 @@ use Rattle.archive.proofs.Answers.{answer-short}
 use Rattle.capi.proofs.Written.{overwritten}
 use native.Mathlib.Omega.{arith}
 use borrow.Author.Tests.{ne_eqb, eq-eqb}
-use borrow.Author.Rules.{rules}
 use Rattle.capi.proofs.cembuxola_archive.Goals as goal
 
 pub returns-then-written-ne1 : goal.returns-then-written-ne1

@@ -5,7 +5,6 @@ use Rattle.mcode.specs.Step.{written}
 use Rattle.capi.proofs.Written.{overwritten}
 use native.Mathlib.Omega.{arith}
 use borrow.Author.Tests.{ne_eqb, eq-eqb}
-use borrow.Author.Rules.{rules}
 use Rattle.capi.proofs.cembuxola_load.Goals as goal
 
 pub returns-then-place-ne2 : goal.returns-then-place-ne2

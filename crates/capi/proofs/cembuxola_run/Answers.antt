@@ -2,7 +2,6 @@ use mathlib.Core.Path.{refl}
 use Rattle.capi.specs.Answers.{run_words}
 use Rattle.capi.proofs.Answers.{stop-depth, run-says}
 use borrow.Author.Tests.{ne_eqb, eq-eqb}
-use borrow.Author.Rules.{rules}
 use Rattle.capi.proofs.cembuxola_run.Goals as goal
 
 pub returns-then-machine-ne24 : goal.returns-then-machine-ne24

@@ -2,7 +2,6 @@ use mathlib.Core.Path.{refl, ap}
 use Rattle.capi.specs.Answers.{start_says, start_words}
 use Rattle.capi.proofs.Answers.{start-depth}
 use borrow.Author.Tests.{ne_eqb, eq-eqb}
-use borrow.Author.Rules.{rules}
 use Rattle.capi.proofs.cembuxola_start.Goals as goal
 
 pub returns-then-machine-ne24 : goal.returns-then-machine-ne24

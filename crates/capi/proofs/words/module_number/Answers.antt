@@ -1,6 +1,5 @@
 use mathlib.Core.Path.{refl}
 use borrow.Author.Tests.{lt-ltb, le-ltb}
-use borrow.Author.Rules.{rules}
 use Rattle.capi.proofs.words.module_number.Goals as goal
 
 pub returns-then-word-gt255 : goal.returns-then-word-gt255

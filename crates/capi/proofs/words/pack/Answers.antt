@@ -3,7 +3,6 @@ use Rattle.mcode.specs.Step.{written}
 use Rattle.capi.specs.Words.{words_of}
 use Rattle.capi.proofs.Written.{overwritten}
 use native.Mathlib.Omega.{arith}
-use borrow.Author.Rules.{rules}
 use Rattle.capi.proofs.words.pack.Goals as goal
 
 pub returns : goal.returns

@@ -2,7 +2,6 @@ use mathlib.Core.List.{[], ◌∷◌}
 use Rattle.mcode.specs.Step.{written}
 use Rattle.capi.proofs.Written.{overwritten}
 use native.Mathlib.Omega.{arith}
-use borrow.Author.Rules.{rules}
 use Rattle.capi.proofs.words.put_answer.Goals as goal
 
 pub returns : goal.returns

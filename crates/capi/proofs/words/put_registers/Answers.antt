@@ -2,7 +2,6 @@ use mathlib.Core.Path.{refl}
 use lib.ListN.{length-set}
 use Rattle.mcode.specs.Step.{written}
 use native.Mathlib.Omega.{arith}
-use borrow.Author.Rules.{rules}
 use Rattle.capi.proofs.words.put_registers.Goals as goal
 
 pub bounds-words-4 : goal.bounds-words-4

@@ -1,10 +1,7 @@
-use mathlib.Core.Path.{◌≡◌, refl, sym, ◌∙◌}
+use mathlib.Core.Path.{◌≡◌}
 use Prim.Native.Nat.{◌+◌, ◌-◌, ◌≤◌}
-use lib.ListN.{length, get_or, drop, length-set}
+use lib.ListN.{length, drop}
 use Rattle.mcode.specs.Step.{written}
-use Rattle.mcode.proofs.Writes.{next-written, none_written}
-use native.Mathlib.Omega.{arith}
-use borrow.Author.Rules.{rules}
 use Rattle.capi.proofs.words.put_stack.Given as goal
 
 abbrev pub invariant-loop-i : goal.invariant-loop-i

@@ -1,13 +1,7 @@
-use mathlib.Core.Path.{◌≡◌, refl, sym, ◌∙◌}
-use borrow.Author.Tests.{not-true, not-false}
+use mathlib.Core.Path.{sym, ◌∙◌}
 use Rattle.engine.specs.Judged.{machine_in}
 use Rattle.engine.proofs.Judged.{too-deep}
 use native.Mathlib.Omega.{arith}
-use borrow.Author.Tests.{ne_eqb, lt-ltb, le-ltb, le-leb, lt-leb, eq-eqb}
-use borrow.Author.Rules.{rules}
-use Rattle.control.proofs.table.stands.Reads as stands-reads
-use Rattle.engine.proofs.judge.is_framed.Reads as is-framed-reads
-use Rattle.engine.proofs.judge.zeros_above.Reads as zeros-above-reads
 use Rattle.engine.proofs.judge.is_machine.Goals as goal
 
 pub returns-then-depth-gt16 : goal.returns-then-depth-gt16

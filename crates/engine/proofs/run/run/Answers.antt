@@ -1,7 +1,6 @@
 use mathlib.Core.Path.{refl}
 use Rattle.engine.proofs.Turns.{refused-run, stopped-run}
 use native.Mathlib.Omega.{arith}
-use borrow.Author.Rules.{rules}
 use Rattle.engine.proofs.run.run.Goals as goal
 
 pub returns-then-refusal-ge1 : goal.returns-then-refusal-ge1

@@ -1,12 +1,5 @@
-use mathlib.Core.Path.{◌≡◌, refl, sym, ap, ◌∙◌}
+use mathlib.Core.Path.{refl, ◌∙◌}
 use Rattle.engine.proofs.Closed.{load-ends, start-ends, both_run}
-use native.Mathlib.Omega.{arith}
-use borrow.Author.Tests.{ne_eqb, lt-ltb, le-ltb, le-leb, lt-leb, eq-eqb}
-use borrow.Author.Rules.{rules}
-use Rattle.loader.proofs.load.load.Reads as load-reads
-use Rattle.engine.proofs.run.run.Reads as run-reads
-use Rattle.engine.proofs.session.no_session.Reads as no-session-reads
-use Rattle.loader.proofs.start.start.Reads as start-reads
 use Rattle.engine.proofs.session.two_runs.Goals as goal
 
 pub returns-then-number-ge1 : goal.returns-then-number-ge1

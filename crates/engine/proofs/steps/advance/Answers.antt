@@ -1,7 +1,6 @@
 use mathlib.Core.Path.{sym, ◌∙◌}
-use mathlib.Core.Logic.{inl, inr, ⊎_elim}
+use mathlib.Core.Logic.{inl, inr}
 use native.Mathlib.Omega.{arith}
-use borrow.Author.Rules.{rules}
 use Rattle.engine.proofs.steps.advance.Goals as goal
 use Rattle.engine.proofs.steps.advance.Goals.{then-i-ne0+else-left-ne0, else-i-ne0}
 

@@ -1,8 +1,5 @@
 use mathlib.Core.Path.{sym, ◌∙◌}
-use lib.ListN.{length}
-use Rattle.mcode.specs.Run.{lent_to, attempt_tally}
-use Rattle.engine.specs.Loops.{tally_at}
-use Rattle.engine.proofs.Advancing.{Looping, loop-begins, loop-on, loop-turns}
+use Rattle.engine.proofs.Advancing.{loop-begins, loop-on, loop-turns}
 use Rattle.engine.proofs.steps.attempts.Goals as goal
 
 pub lines-init : goal.lines-init

@@ -1,6 +1,5 @@
 use mathlib.Core.Path.{sym, ◌∙◌}
 use Rattle.engine.proofs.Advancing.{counted, stretch-goes, stretch-ends}
-use borrow.Author.Rules.{rules}
 use Rattle.engine.proofs.steps.by_instructions.Goals as goal
 
 pub overflow_sub-rest : goal.overflow_sub-rest

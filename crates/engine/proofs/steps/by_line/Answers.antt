@@ -1,7 +1,6 @@
 use native.Mathlib.Omega.{arith}
 use Rattle.execute.proofs.Whole.{lends}
 use Rattle.engine.proofs.Advancing.{line_known, line-asks, line-goes, line-keeps, line-fails, line-still}
-use borrow.Author.Rules.{rules}
 use Rattle.engine.proofs.steps.by_line.Goals as goal
 
 pub take_line-t-requires : goal.take_line-t-requires

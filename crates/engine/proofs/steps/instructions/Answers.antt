@@ -1,11 +1,7 @@
 use mathlib.Core.Path.{sym, ◌∙◌}
-use lib.ListN.{length}
 use native.Mathlib.Omega.{arith}
-use Rattle.mcode.specs.Run.{tally}
-use Rattle.actions.specs.Core.{held}
 use Rattle.execute.proofs.Whole.{lends}
-use Rattle.engine.proofs.Turns.{Going, begins, asks, listed, goes_on, stops_so, named, stands-still}
-use borrow.Author.Rules.{rules}
+use Rattle.engine.proofs.Turns.{begins, asks, listed, goes_on, stops_so, named, stands-still}
 use Rattle.engine.proofs.steps.instructions.Goals as goal
 
 pub steps-init : goal.steps-init

@@ -1,15 +1,12 @@
 use mathlib.Core.Path.{refl, sym, ap, ◌∙◌}
-use lib.ListN.{length}
 use native.Mathlib.Omega.{arith}
 use Rattle.mcode.specs.declared.Registers.{Registers}
 use Rattle.mcode.specs.Machine.{state, live, machine}
 use Rattle.mcode.specs.Run.{lent_to, run_n, tally, step_tally}
-use Rattle.engine.specs.Loops.{tally_at}
 use Rattle.execute.proofs.Whole.{lends}
 use Rattle.engine.proofs.Turns.{near, loaded-few, ready}
-use Rattle.engine.proofs.Advancing.{Looping, loop-begins, loop-on, loop-ends}
+use Rattle.engine.proofs.Advancing.{loop-begins, loop-on, loop-ends}
 use Rattle.engine.proofs.Trapping.{trap-asks, trap-some, trap-goes, trap-keeps, trap-stops, trap-still}
-use borrow.Author.Rules.{rules}
 use Rattle.engine.proofs.steps.steps.Goals as goal
 
 pub core_of-r-requires : goal.core_of-r-requires

@@ -1,7 +1,5 @@
-use mathlib.Core.Path.{◌≡◌}
 use borrow.Author.Tests.{ne_eqb}
 use Rattle.engine.specs.Stops.{stop_of}
-use borrow.Author.Rules.{rules}
 use Rattle.engine.proofs.stops.stop_of.Goals as goal
 
 pub returns-in-30 : goal.returns-in-30

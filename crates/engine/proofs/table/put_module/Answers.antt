@@ -1,8 +1,7 @@
 use mathlib.Core.Path.{◌≡◌}
-use Prim.Native.Nat.{ℕ, ◌+◌, ◌*◌}
+use Prim.Native.Nat.{◌+◌, ◌*◌}
 use native.Mathlib.Omega.{arith}
 use Rattle.mcode.specs.Step.{written}
-use borrow.Author.Rules.{rules}
 use Rattle.engine.proofs.table.put_module.Goals as goal
 
 pub returns : goal.returns

@@ -1,11 +1,6 @@
-use mathlib.Core.Path.{◌≡◌, refl, sym, ap, ◌∙◌, subst}
-use mathlib.Core.List.{List}
-use Prim.Native.Nat.{ℕ, ◌+◌, ◌-◌, ◌*◌, ◌≤◌, ◌<◌}
+use mathlib.Core.Path.{refl}
 use native.Mathlib.Omega.{arith}
-use borrow.Author.Rules.{rules}
-use Rattle.mcode.specs.Step.{written}
-use Rattle.engine.proofs.Numbers.{Holds, holds-none, holds_more, tabled-so}
-use Rattle.engine.proofs.table.put_module.Reads as put-module-reads
+use Rattle.engine.proofs.Numbers.{holds-none, holds_more, tabled-so}
 use Rattle.engine.proofs.table.table_of.Goals as goal
 
 pub loop-k-init : goal.loop-k-init

@@ -1,11 +1,6 @@
-use mathlib.Core.Path.{◌≡◌, refl, sym, ap, ◌∙◌, subst}
-use mathlib.Core.List.{List}
-use Prim.Native.Nat.{ℕ, ◌+◌, ◌-◌, ◌*◌, ◌≤◌, ◌<◌}
-use native.Mathlib.Omega.{arith}
-use borrow.Author.Rules.{rules}
-use Rattle.mcode.specs.Step.{written}
-use Rattle.engine.proofs.Numbers.{Holds, holds-none, holds_more, tabled-so}
-use Rattle.engine.proofs.table.put_module.Reads as put-module-reads
+use mathlib.Core.Path.{◌≡◌}
+use Prim.Native.Nat.{◌-◌, ◌≤◌}
+use Rattle.engine.proofs.Numbers.{Holds}
 use Rattle.engine.proofs.table.table_of.Given as goal
 
 abbrev pub invariant-loop-k : goal.invariant-loop-k

@@ -1,12 +1,4 @@
-use mathlib.Core.Path.{◌≡◌, refl, sym, ap, ◌∙◌}
 use Rattle.in_place.proofs.Whole.{load-refuses, start-refuses, run-reads}
-use native.Mathlib.Omega.{arith}
-use borrow.Author.Tests.{ne_eqb, lt-ltb, le-ltb, le-leb, lt-leb, eq-eqb}
-use borrow.Author.Rules.{rules}
-use Rattle.loader.proofs.load.load.Reads as load-reads
-use Rattle.engine.proofs.run.refused_with.Reads as refused-with-reads
-use Rattle.in_place.proofs.run.run.Reads as run-reads
-use Rattle.loader.proofs.start.start.Reads as start-reads
 use Rattle.in_place.proofs.reading.reading.Goals as goal
 
 pub returns-then-number-ge1 : goal.returns-then-number-ge1

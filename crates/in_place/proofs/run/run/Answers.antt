@@ -1,8 +1,7 @@
-use mathlib.Core.Path.{◌≡◌, refl}
+use mathlib.Core.Path.{refl}
 use native.Mathlib.Omega.{arith}
 use Rattle.engine.proofs.Turns.{refused-run, stopped-run}
 use Rattle.in_place.proofs.Onward.{quiet-so}
-use borrow.Author.Rules.{rules}
 use Rattle.in_place.proofs.run.run.Goals as goal
 
 pub returns-then-refusal-ge1 : goal.returns-then-refusal-ge1

@@ -1,0 +1,8 @@
+-- The store is lent in its first words.
+use mathlib.Core.Path.{sym}
+use lib.Seq.{length-take-le}
+use borrow.Author.Rules.{rules}
+use Rattle.reading.proofs.put_reading.Goals as goal
+
+pub slice_bounds-put_answer-end-2 : goal.slice_bounds-put_answer-end-2
+slice_bounds-put_answer-end-2 c = sym (length-take-le _ _ c.store_words-w.ensures)

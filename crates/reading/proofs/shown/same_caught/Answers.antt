@@ -1,0 +1,16 @@
+use mathlib.Core.Path.{refl}
+use borrow.Author.Tests.{eq-eqb, ne_eqb}
+use borrow.Author.Rules.{rules}
+use Rattle.reading.proofs.shown.same_caught.Goals as goal
+
+pub returns-then-a-b : goal.returns-then-a-b
+returns-then-a-b c = rw (ne_eqb _ _ c.if-a-b.true) refl
+
+pub returns-then-a-b-2 : goal.returns-then-a-b-2
+returns-then-a-b-2 c = rw (eq-eqb _ _ c.if-a-b.false, ne_eqb _ _ c.if-a-b-2.true) refl
+
+pub returns-then-a-b-3 : goal.returns-then-a-b-3
+returns-then-a-b-3 c = rw (eq-eqb _ _ c.if-a-b.false, eq-eqb _ _ c.if-a-b-2.false, ne_eqb _ _ c.if-a-b-3.true) refl
+
+pub returns : goal.returns
+returns c = rw (eq-eqb _ _ c.if-a-b.false, eq-eqb _ _ c.if-a-b-2.false, eq-eqb _ _ c.if-a-b-3.false) refl

@@ -6,4 +6,4 @@ use borrow.Author.Rules.{rules}
 use Rattle.reading.proofs.put_files.Goals as goal
 
 pub loop-i-init : goal.loop-i-init
-loop-i-init c = (refl, refl, refl)
+loop-i-init g c = (refl, refl, refl)

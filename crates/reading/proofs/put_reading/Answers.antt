@@ -5,4 +5,4 @@ use borrow.Author.Rules.{rules}
 use Rattle.reading.proofs.put_reading.Goals as goal
 
 pub slice_bounds-put_answer-end-2 : goal.slice_bounds-put_answer-end-2
-slice_bounds-put_answer-end-2 c = sym (length-take-le _ _ c.store_words-w.ensures)
+slice_bounds-put_answer-end-2 g c = sym (length-take-le _ _ c.store_words-w.ensures)

@@ -5,7 +5,7 @@ use borrow.Author.Rules.{rules}
 use Rattle.trace.proofs.put_files.Given as goal
 
 abbrev pub invariant-loop-i : goal.invariant-loop-i
-invariant-loop-i l = (length l.store ≡ length l.initial.store) × (length l.before ≡ length l.initial.before)
+invariant-loop-i g l = (length l.store ≡ length l.initial.store) × (length l.before ≡ length l.initial.before)
 
 abbrev pub decreases-loop-i : goal.decreases-loop-i
-decreases-loop-i l = l.count - l.i
+decreases-loop-i g l = l.count - l.i

@@ -6,4 +6,4 @@ abbrev pub invariant-loop-p : goal.invariant-loop-p
 invariant-loop-p l = Unit {0}
 
 abbrev pub decreases-loop-p : goal.decreases-loop-p
-decreases-loop-p l = l.a - l.p
+decreases-loop-p l = l.e - l.p

@@ -16,7 +16,7 @@ pub shape_of-notes-then-program-k : goal.shape_of-notes-then-program-k
 shape_of-notes-then-program-k c = c.loop-k.invariant.1
 
 pub loop-k-preserved : goal.loop-k-preserved
-loop-k-preserved c = (c.put_module.auto.image ∙ c.loop-k.invariant.0, c.put_module.auto.map ∙ c.loop-k.invariant.1)
+loop-k-preserved c = (c.put_module.auto.map ∙ c.loop-k.invariant.0, c.put_module.auto.notes ∙ c.loop-k.invariant.1)
 
 pub shape_of-map : goal.shape_of-map
 shape_of-map c = c.loop-k.invariant.0

@@ -4,7 +4,7 @@ use borrow.Author.Rules.{rules}
 use Rattle.reading.proofs.arguments.gathered.Goals as goal
 
 pub loop-i-init : goal.loop-i-init
-loop-i-init c = tt
+loop-i-init g c = tt
 
 pub loop-i-preserved : goal.loop-i-preserved
-loop-i-preserved c = tt
+loop-i-preserved g c = tt

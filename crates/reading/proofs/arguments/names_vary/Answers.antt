@@ -1,9 +1,8 @@
 use mathlib.Core.Path.{ap, sym, ◌∙◌}
 use borrow.Author.Rules.{rules}
-use Rattle.console.proofs.Texts.{told_same}
 use Rattle.console.specs.Choices.{same_text}
 use Rattle.reading.specs.Values.{vary_text}
 use Rattle.reading.proofs.arguments.names_vary.Goals as goal
 
 pub returns : goal.returns
-returns c = told_same _ _ _ c.same.ensures.0 c.same.ensures.1 ∙ ap (λ t. same_text t vary_text) c.name.ensures
+returns c = c.same.ensures ∙ ap (λ t. same_text t vary_text) c.name.ensures

@@ -6,4 +6,4 @@ use borrow.Author.Rules.{rules}
 use Rattle.reading.proofs.vary.put_variations.Goals as goal
 
 pub loop-i-init : goal.loop-i-init
-loop-i-init c = (refl, refl)
+loop-i-init g c = (refl, refl)

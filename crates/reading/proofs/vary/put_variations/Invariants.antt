@@ -5,7 +5,7 @@ use borrow.Author.Rules.{rules}
 use Rattle.reading.proofs.vary.put_variations.Given as goal
 
 abbrev pub invariant-loop-i : goal.invariant-loop-i
-invariant-loop-i l = (length l.map ≡ length l.initial.map) × (length l.store ≡ length l.initial.store)
+invariant-loop-i g l = (length l.map ≡ length l.initial.map) × (length l.store ≡ length l.initial.store)
 
 abbrev pub decreases-loop-i : goal.decreases-loop-i
-decreases-loop-i l = l.count - l.i
+decreases-loop-i g l = l.count - l.i

@@ -1,6 +1,6 @@
 -- An instruction as a listing shows it, by the definitions of the opcode table, the code's bytes and the jump's target.
-use Rattle.std.specs.Prelude.{ℕ, ◌+◌, ◌<◌, ◌≡◌, Bool, List, eqb, leb, ltb, get_or}
-use Rattle.mcode.specs.Word.{pick, and, or}
+use Rattle.std.specs.Prelude.{ℕ, ◌+◌, ◌<◌, ◌≡◌, Bool, List, eqb, ltb, get_or}
+use Rattle.mcode.specs.Word.{pick, or}
 use Rattle.mcode.specs.Opcode.{lengths}
 use Rattle.mcode.specs.Image.{code_byte, entry_of, params_of, results_of}
 use Rattle.mcode.specs.Depths.{names_module, target}

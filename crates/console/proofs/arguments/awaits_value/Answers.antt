@@ -1,5 +1,4 @@
 use Rattle.console.specs.Asks.{awaits}
-use borrow.Author.Rules.{rules}
 use Rattle.console.proofs.arguments.awaits_value.Goals as goal
 
 pub returns-in-Nothing : goal.returns-in-Nothing

@@ -1,4 +1,3 @@
-use borrow.Author.Rules.{rules}
 use Rattle.console.proofs.arguments.begun.Goals as goal
 
 pub returns : goal.returns

@@ -1,5 +1,4 @@
 use Rattle.console.specs.Asks.{whole_of}
-use borrow.Author.Rules.{rules}
 use Rattle.console.proofs.arguments.whole.Goals as goal
 
 pub returns-in-Nothing : goal.returns-in-Nothing

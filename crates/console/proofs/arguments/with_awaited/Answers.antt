@@ -1,7 +1,6 @@
 use mathlib.Core.Path.{ap, ◌∙◌}
 use Rattle.console.specs.Asks.{with_value}
 use Rattle.console.proofs.Asking.{says-by}
-use borrow.Author.Rules.{rules}
 use Rattle.console.proofs.arguments.with_awaited.Goals as goal
 
 pub returns-in-Nothing : goal.returns-in-Nothing

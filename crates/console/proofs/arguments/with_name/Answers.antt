@@ -1,6 +1,5 @@
 use mathlib.Core.Path.{sym, ◌∙◌}
 use Rattle.console.specs.Asks.{name_says}
-use borrow.Author.Rules.{rules}
 use Rattle.console.proofs.arguments.with_name.Goals as goal
 
 pub returns-in-Help : goal.returns-in-Help

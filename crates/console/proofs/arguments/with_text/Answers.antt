@@ -1,6 +1,5 @@
 use mathlib.Core.Path.{sym, ◌∙◌}
 use Rattle.console.specs.Asks.{text_says}
-use borrow.Author.Rules.{rules}
 use Rattle.console.proofs.arguments.with_text.Goals as goal
 
 pub returns-then-awaits_value : goal.returns-then-awaits_value

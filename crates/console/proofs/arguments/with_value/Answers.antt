@@ -1,6 +1,5 @@
 use mathlib.Core.Path.{sym, ◌∙◌}
 use Rattle.console.specs.Asks.{with_value}
-use borrow.Author.Rules.{rules}
 use Rattle.console.proofs.arguments.with_value.Goals as goal
 
 pub returns-then-is_bad : goal.returns-then-is_bad

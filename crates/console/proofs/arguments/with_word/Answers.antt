@@ -1,6 +1,5 @@
 use mathlib.Core.Path.{sym, ◌∙◌}
 use Rattle.console.specs.Asks.{word_says}
-use borrow.Author.Rules.{rules}
 use Rattle.console.proofs.arguments.with_word.Goals as goal
 
 pub returns-then-has_value : goal.returns-then-has_value

@@ -1,12 +1,11 @@
 -- What is left of the search gives the same answer.
-use mathlib.Core.Path.{◌≡◌, refl, sym, ap, ◌∙◌}
-use Prim.Native.Nat.{ℕ, ◌-◌, ◌≤◌}
+use mathlib.Core.Path.{◌≡◌, sym, ap, ◌∙◌}
+use Prim.Native.Nat.{ℕ, ◌-◌}
 use Rattle.listing.specs.First.{first_from}
 use Rattle.listing.proofs.Least.{first-here, first-later, first-none}
 use Rattle.console.specs.Caught.{is_base, based_on}
 use native.Mathlib.Omega.{arith}
 use borrow.Author.Tests.{ne_eqb, eq-eqb}
-use borrow.Author.Rules.{rules}
 use Rattle.console.proofs.caught.based_on.Goals as goal
 
 pub loop-k-init : goal.loop-k-init

@@ -1,11 +1,7 @@
-use mathlib.Core.Path.{◌≡◌, refl, sym, ap, ◌∙◌}
-use Prim.Native.Nat.{ℕ, ◌-◌, ◌≤◌}
+use mathlib.Core.Path.{◌≡◌}
+use Prim.Native.Nat.{◌-◌, ◌≤◌}
 use Rattle.listing.specs.First.{first_from}
-use Rattle.listing.proofs.Least.{first-here, first-later, first-none}
 use Rattle.console.specs.Caught.{is_base, based_on}
-use native.Mathlib.Omega.{arith}
-use borrow.Author.Tests.{ne_eqb, eq-eqb}
-use borrow.Author.Rules.{rules}
 use Rattle.console.proofs.caught.based_on.Given as goal
 
 abbrev pub invariant-loop-k : goal.invariant-loop-k

@@ -1,6 +1,5 @@
 use mathlib.Core.Path.{ap, ◌∙◌}
 use Rattle.console.specs.Caught.{last_caught}
-use borrow.Author.Rules.{rules}
 use Rattle.console.proofs.caught.caught_in.Goals as goal
 
 pub returns : goal.returns

@@ -1,7 +1,6 @@
 use mathlib.Core.Path.{refl}
 use borrow.Author.Tests.{lt-ltb, le-ltb}
 use Rattle.console.specs.Caught.{goes_to}
-use borrow.Author.Rules.{rules}
 use Rattle.console.proofs.caught.goes_to.Goals as goal
 
 pub returns-then-w-a : goal.returns-then-w-a

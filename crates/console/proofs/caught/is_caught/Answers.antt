@@ -2,7 +2,6 @@
 use mathlib.Core.Path.{refl}
 use borrow.Author.Tests.{ne_eqb, eq-eqb}
 use Rattle.console.specs.Caught.{is_caught}
-use borrow.Author.Rules.{rules}
 use Rattle.console.proofs.caught.is_caught.Goals as goal
 
 pub returns-then-turn : goal.returns-then-turn

@@ -1,7 +1,6 @@
 -- The tests of last_caught, in its order.
 use borrow.Author.Tests.{ne_eqb, lt-ltb, le-ltb, eq-eqb}
 use Rattle.console.specs.Caught.{last_caught}
-use borrow.Author.Rules.{rules}
 use Rattle.console.proofs.caught.last_caught.Goals as goal
 
 pub returns-then-store-lt-COPIES_END : goal.returns-then-store-lt-COPIES_END

@@ -1,8 +1,7 @@
 -- The tests of record_tells, in its order.
 use mathlib.Core.Path.{refl, sym, ◌∙◌}
-use borrow.Author.Tests.{lt-ltb, le-ltb, not-true, not-false}
+use borrow.Author.Tests.{lt-ltb, le-ltb}
 use Rattle.console.specs.Caught.{record_tells}
-use borrow.Author.Rules.{rules}
 use Rattle.console.proofs.caught.record_tells.Goals as goal
 
 pub returns-then-not-is_trap : goal.returns-then-not-is_trap

@@ -2,7 +2,6 @@
 use mathlib.Core.Path.{refl}
 use Rattle.console.specs.Faults.{Found}
 use borrow.Author.Tests.{ne_eqb, eq-eqb}
-use borrow.Author.Rules.{rules}
 use Rattle.console.proofs.fault.found.Goals as goal
 
 pub returns-then-number-eq13 : goal.returns-then-number-eq13

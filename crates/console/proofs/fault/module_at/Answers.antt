@@ -1,13 +1,10 @@
 -- Only byte 0 differs from the image as it was, and no lesser count is refused so.
-use mathlib.Core.Path.{◌≡◌, refl, sym, ◌∙◌}
-use Prim.Native.Nat.{ℕ, ◌+◌, ◌-◌, ◌≤◌, ◌<◌}
-use lib.ListN.{length, set, length-set}
+use mathlib.Core.Path.{refl, sym, ◌∙◌}
+use Prim.Native.Nat.{◌+◌}
+use lib.ListN.{set, length-set}
 use borrow.Author.Count.{below_more}
-use Rattle.mcode.specs.Image.{most_modules}
-use Rattle.console.specs.Faults.{CountRefused}
 use Rattle.console.proofs.Searches.{told, restored, set-again}
 use native.Mathlib.Omega.{arith}
-use borrow.Author.Rules.{rules}
 use Rattle.console.proofs.fault.module_at.Goals as goal
 
 pub loop-m-init : goal.loop-m-init

@@ -1,12 +1,8 @@
-use mathlib.Core.Path.{◌≡◌, refl, sym, ◌∙◌}
-use Prim.Native.Nat.{ℕ, ◌+◌, ◌-◌, ◌≤◌, ◌<◌}
-use lib.ListN.{length, set, length-set}
-use borrow.Author.Count.{below_more}
+use mathlib.Core.Path.{◌≡◌}
+use Prim.Native.Nat.{ℕ, ◌-◌, ◌≤◌, ◌<◌}
+use lib.ListN.{length, set}
 use Rattle.mcode.specs.Image.{most_modules}
 use Rattle.console.specs.Faults.{CountRefused}
-use Rattle.console.proofs.Searches.{told, restored, set-again}
-use native.Mathlib.Omega.{arith}
-use borrow.Author.Rules.{rules}
 use Rattle.console.proofs.fault.module_at.Given as goal
 
 abbrev pub invariant-loop-m : goal.invariant-loop-m

@@ -6,7 +6,6 @@ use lib.ListN.{length}
 use Rattle.console.specs.declared.print.Place.TheVariants.{Byte, Inside}
 use Rattle.console.specs.Faults.{Least, PrefixRefused, Placed}
 use borrow.Author.Tests.{ne_eqb, lt-ltb, le-ltb, eq-eqb}
-use borrow.Author.Rules.{rules}
 use Rattle.console.proofs.fault.place.Goals as goal
 
 pub returns-then-image-eq0 : goal.returns-then-image-eq0

@@ -1,12 +1,6 @@
-use mathlib.Core.Path.{refl, sym, ◌∙◌}
 use Prim.Native.Nat.{ℕ, ◌-◌, ◌≤◌, ◌<◌}
 use lib.ListN.{length}
-use lib.Seq.{length-take-le}
-use borrow.Author.Count.{below_more}
 use Rattle.console.specs.Faults.{PrefixRefused}
-use Rattle.console.proofs.Searches.{told}
-use native.Mathlib.Omega.{arith}
-use borrow.Author.Rules.{rules}
 use Rattle.console.proofs.fault.shortest.Given as goal
 
 abbrev pub invariant-loop-at : goal.invariant-loop-at

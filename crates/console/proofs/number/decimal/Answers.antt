@@ -1,12 +1,9 @@
 -- What is left gives the same answer: the digits from i on, after those of the value.
-use mathlib.Core.Path.{◌≡◌, sym, ◌∙◌}
-use Prim.Native.Nat.{◌-◌, ◌≤◌}
-use lib.ListN.{length, drop}
-use Rattle.console.specs.Decimals.{number_of, number_from, largest}
+use mathlib.Core.Path.{sym, ◌∙◌}
+use Rattle.console.specs.Decimals.{number_of}
 use Rattle.console.proofs.Texts.{first-digits, more-digits, bad-digit, too_large, last-digit}
 use native.Mathlib.Omega.{arith}
 use borrow.Author.Tests.{le-leb, lt-leb, eq-eqb}
-use borrow.Author.Rules.{rules}
 use Rattle.console.proofs.number.decimal.Goals as goal
 
 pub returns-then-text-eq0 : goal.returns-then-text-eq0

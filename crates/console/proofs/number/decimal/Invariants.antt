@@ -1,11 +1,7 @@
-use mathlib.Core.Path.{◌≡◌, sym, ◌∙◌}
+use mathlib.Core.Path.{◌≡◌}
 use Prim.Native.Nat.{◌-◌, ◌≤◌}
 use lib.ListN.{length, drop}
 use Rattle.console.specs.Decimals.{number_of, number_from, largest}
-use Rattle.console.proofs.Texts.{first-digits, more-digits, bad-digit, too_large, last-digit}
-use native.Mathlib.Omega.{arith}
-use borrow.Author.Tests.{le-leb, lt-leb, eq-eqb}
-use borrow.Author.Rules.{rules}
 use Rattle.console.proofs.number.decimal.Given as goal
 
 abbrev pub invariant-loop-i : goal.invariant-loop-i

@@ -1,5 +1,4 @@
 use borrow.Author.Tests.{lt-ltb, le-ltb}
-use borrow.Author.Rules.{rules}
 use Rattle.console.proofs.number.sum.Goals as goal
 
 pub returns-then-a-b : goal.returns-then-a-b

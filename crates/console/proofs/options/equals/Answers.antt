@@ -1,11 +1,7 @@
 -- The place is as many characters on as were passed.
-use mathlib.Core.Path.{◌≡◌, sym, ◌∙◌}
-use Prim.Native.Nat.{◌+◌, ◌-◌, ◌≤◌}
-use lib.ListN.{length, drop}
-use Rattle.console.specs.Choices.{place_of}
+use mathlib.Core.Path.{sym, ◌∙◌}
 use Rattle.console.proofs.Texts.{found-place, more-places, no_place}
 use native.Mathlib.Omega.{arith}
-use borrow.Author.Rules.{rules}
 use Rattle.console.proofs.options.equals.Goals as goal
 
 pub loop-i-init : goal.loop-i-init

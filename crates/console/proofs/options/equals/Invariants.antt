@@ -1,10 +1,7 @@
-use mathlib.Core.Path.{◌≡◌, sym, ◌∙◌}
+use mathlib.Core.Path.{◌≡◌}
 use Prim.Native.Nat.{◌+◌, ◌-◌, ◌≤◌}
 use lib.ListN.{length, drop}
 use Rattle.console.specs.Choices.{place_of}
-use Rattle.console.proofs.Texts.{found-place, more-places, no_place}
-use native.Mathlib.Omega.{arith}
-use borrow.Author.Rules.{rules}
 use Rattle.console.proofs.options.equals.Given as goal
 
 abbrev pub invariant-loop-i : goal.invariant-loop-i

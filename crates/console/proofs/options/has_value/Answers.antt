@@ -1,6 +1,5 @@
 use Rattle.console.specs.Choices.{has_value}
 use borrow.Author.Tests.{lt-ltb, le-ltb}
-use borrow.Author.Rules.{rules}
 use Rattle.console.proofs.options.has_value.Goals as goal
 
 pub returns-then-at-text : goal.returns-then-at-text

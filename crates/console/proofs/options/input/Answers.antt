@@ -1,6 +1,5 @@
 use mathlib.Core.Path.{sym, ◌∙◌}
 use Rattle.console.specs.Choices.{input_of}
-use borrow.Author.Rules.{rules}
 use Rattle.console.proofs.options.input.Goals as goal
 
 pub returns-then-has_value : goal.returns-then-has_value

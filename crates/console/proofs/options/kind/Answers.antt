@@ -1,7 +1,6 @@
 use mathlib.Core.Path.{sym, ◌∙◌}
 use Rattle.console.specs.Choices.{kind_of}
 use borrow.Author.Tests.{ne_eqb, lt-ltb, le-ltb, eq-eqb}
-use borrow.Author.Rules.{rules}
 use Rattle.console.proofs.options.kind.Goals as goal
 
 pub returns-then-same : goal.returns-then-same

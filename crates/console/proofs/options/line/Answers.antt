@@ -1,7 +1,6 @@
 use mathlib.Core.Path.{sym, ◌∙◌}
 use Rattle.console.specs.Choices.{line_choice}
 use borrow.Author.Tests.{le-leb, lt-leb}
-use borrow.Author.Rules.{rules}
 use Rattle.console.proofs.options.line.Goals as goal
 
 pub returns-then-n-lt8 : goal.returns-then-n-lt8

@@ -1,7 +1,6 @@
 use mathlib.Core.Path.{sym}
 use lib.Seq.{length-take-le}
 use Rattle.console.specs.Choices.{name_of}
-use borrow.Author.Rules.{rules}
 use Rattle.console.proofs.options.name.Goals as goal
 
 pub slice_bounds-result-end : goal.slice_bounds-result-end

@@ -1,7 +1,6 @@
 use mathlib.Core.Path.{sym, ◌∙◌}
 use Rattle.console.specs.Choices.{input_from}
 use borrow.Author.Tests.{le-leb, lt-leb}
-use borrow.Author.Rules.{rules}
 use Rattle.console.proofs.options.pair.Goals as goal
 
 pub returns-then-c-gt15 : goal.returns-then-c-gt15

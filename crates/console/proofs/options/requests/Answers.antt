@@ -1,7 +1,6 @@
 use mathlib.Core.Path.{sym, ◌∙◌}
 use Rattle.console.specs.Choices.{requests_of}
 use borrow.Author.Tests.{le-leb, lt-leb}
-use borrow.Author.Rules.{rules}
 use Rattle.console.proofs.options.requests.Goals as goal
 
 pub returns-then-n-le65535 : goal.returns-then-n-le65535

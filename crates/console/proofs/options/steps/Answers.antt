@@ -1,6 +1,5 @@
 use mathlib.Core.Path.{sym, ◌∙◌}
 use Rattle.console.specs.Choices.{steps_of}
-use borrow.Author.Rules.{rules}
 use Rattle.console.proofs.options.steps.Goals as goal
 
 pub returns-in-Is : goal.returns-in-Is

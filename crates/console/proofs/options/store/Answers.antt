@@ -1,7 +1,6 @@
 use mathlib.Core.Path.{sym, ◌∙◌}
 use Rattle.console.specs.Choices.{store_of}
 use borrow.Author.Tests.{le-leb, lt-leb}
-use borrow.Author.Rules.{rules}
 use Rattle.console.proofs.options.store.Goals as goal
 
 pub returns-then-n-le65536 : goal.returns-then-n-le65536

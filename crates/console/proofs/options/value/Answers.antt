@@ -3,7 +3,6 @@ use lib.ListN.{drop_of_length-le}
 use Rattle.console.specs.Choices.{value_of}
 use Rattle.console.proofs.Texts.{rest_of}
 use native.Mathlib.Omega.{arith}
-use borrow.Author.Rules.{rules}
 use Rattle.console.proofs.options.value.Goals as goal
 
 pub returns-then-at-text : goal.returns-then-at-text

@@ -1,7 +1,6 @@
 use lib.Pow.{pow-lt}
 use native.Mathlib.Omega.{arith}
 use borrow.Author.Tests.{lt-ltb, le-ltb}
-use borrow.Author.Rules.{rules}
 use Rattle.console.proofs.options.weight.Goals as goal
 
 pub returns-then-i-lt16 : goal.returns-then-i-lt16

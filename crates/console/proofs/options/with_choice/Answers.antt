@@ -1,5 +1,4 @@
 use Rattle.console.proofs.Asking.{input-set}
-use borrow.Author.Rules.{rules}
 use Rattle.console.proofs.options.with_choice.Goals as goal
 
 pub returns-in-Steps : goal.returns-in-Steps

@@ -1,7 +1,6 @@
 use mathlib.Core.Path.{sym}
 use mathlib.Core.Bool.{false≢true}
 use Rattle.listing.proofs.Waiting.{above}
-use borrow.Author.Rules.{rules}
 use Rattle.listing.proofs.block.flush.Goals as goal
 
 pub returns-then-n-eq0 : goal.returns-then-n-eq0

@@ -1,5 +1,4 @@
 use Rattle.listing.proofs.Waiting.{stored, unstored}
-use borrow.Author.Rules.{rules}
 use Rattle.listing.proofs.block.put.Goals as goal
 
 pub returns-then-n-lt65536 : goal.returns-then-n-lt65536

@@ -1,7 +1,4 @@
-use Prim.Native.Nat.{◌-◌}
-use lib.ListN.{length}
-use borrow.Author.Rules.{rules}
-use Rattle.listing.proofs.Waiting.{Kept, begun, again, done}
+use Rattle.listing.proofs.Waiting.{begun, again, done}
 use Rattle.listing.proofs.block.text.Goals as goal
 
 pub loop-i-init : goal.loop-i-init

@@ -1,7 +1,6 @@
 use Prim.Native.Nat.{◌-◌}
 use lib.ListN.{length}
-use borrow.Author.Rules.{rules}
-use Rattle.listing.proofs.Waiting.{Kept, begun, again, done}
+use Rattle.listing.proofs.Waiting.{Kept}
 use Rattle.listing.proofs.block.text.Given as goal
 
 abbrev pub invariant-loop-i : goal.invariant-loop-i

@@ -1,7 +1,6 @@
 -- A word of the store, 0 outside.
 use mathlib.Core.Path.{sym}
 use lib.ListN.{get_or-eq_default}
-use borrow.Author.Rules.{rules}
 use Rattle.listing.proofs.bytes.word_at.Goals as goal
 
 pub returns : goal.returns

@@ -2,7 +2,6 @@ use mathlib.Core.Path.{refl}
 use Rattle.listing.specs.Cell.{mark_text}
 use Rattle.listing.proofs.Cells.{depth_small, results-small, saves-small}
 use native.Mathlib.Omega.{arith}
-use borrow.Author.Rules.{rules}
 use Rattle.listing.proofs.cell.cell_of.Goals as goal
 
 pub with_number-depth-requires : goal.with_number-depth-requires

@@ -2,7 +2,6 @@ use mathlib.Core.Path.{◌∙◌}
 use Rattle.listing.specs.Cell.{text_of}
 use Rattle.listing.proofs.Cells.{one-digit, two_digits}
 use native.Mathlib.Omega.{arith}
-use borrow.Author.Rules.{rules}
 use Rattle.listing.proofs.cell.with_number.Goals as goal
 
 pub returns-then-n-lt10 : goal.returns-then-n-lt10

@@ -1,7 +1,6 @@
 use Rattle.listing.specs.Cell.{text_of}
 use Rattle.listing.proofs.Cells.{no-results, some-results}
 use native.Mathlib.Omega.{arith}
-use borrow.Author.Rules.{rules}
 use Rattle.listing.proofs.cell.with_results.Goals as goal
 
 pub returns-then-n-eq0 : goal.returns-then-n-eq0

@@ -1,10 +1,7 @@
-use mathlib.Core.Path.{◌≡◌, refl, ◌∙◌}
-use mathlib.Core.List.{◌++◌}
-use Prim.Native.Nat.{◌+◌, ◌*◌, ◌≤◌}
-use Rattle.listing.specs.Cell.{text_of, saves_text}
+use mathlib.Core.Path.{refl, ◌∙◌}
+use Rattle.listing.specs.Cell.{text_of}
 use Rattle.listing.proofs.Cells.{no-saves, next-save}
 use native.Mathlib.Omega.{arith}
-use borrow.Author.Rules.{rules}
 use Rattle.listing.proofs.cell.with_saves.Goals as goal
 
 pub loop-left-init : goal.loop-left-init

@@ -1,10 +1,7 @@
-use mathlib.Core.Path.{◌≡◌, refl, ◌∙◌}
+use mathlib.Core.Path.{◌≡◌}
 use mathlib.Core.List.{◌++◌}
 use Prim.Native.Nat.{◌+◌, ◌*◌, ◌≤◌}
 use Rattle.listing.specs.Cell.{text_of, saves_text}
-use Rattle.listing.proofs.Cells.{no-saves, next-save}
-use native.Mathlib.Omega.{arith}
-use borrow.Author.Rules.{rules}
 use Rattle.listing.proofs.cell.with_saves.Given as goal
 
 abbrev pub invariant-loop-left : goal.invariant-loop-left

@@ -1,6 +1,5 @@
 -- Each field is what its part answers.
 use Rattle.listing.specs.Shape.{instruction_at}
-use borrow.Author.Rules.{rules}
 use Rattle.listing.proofs.instruction.instruction_at.Goals as goal
 
 pub returns : goal.returns

@@ -4,7 +4,6 @@ use Prim.Native.Nat.{ℕ, ◌+◌, ◌-◌, ◌*◌, ◌%◌}
 use Rattle.mcode.specs.Depths.{target}
 use borrow.Author.Tests.{ne_eqb, lt-ltb, le-ltb, eq-eqb}
 use borrow.Author.Tests.{ne_eqb, lt-ltb, le-ltb, eq-eqb}
-use borrow.Author.Rules.{rules}
 use Rattle.listing.proofs.instruction.jump_target.Goals as goal
 
 pub returns-then-op-lt26 : goal.returns-then-op-lt26

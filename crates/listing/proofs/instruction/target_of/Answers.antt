@@ -1,5 +1,4 @@
 use mathlib.Core.Path.{refl, sym, ◌∙◌}
-use borrow.Author.Rules.{rules}
 use Rattle.listing.proofs.instruction.target_of.Goals as goal
 
 pub returns-then-is_jump : goal.returns-then-is_jump

@@ -1,7 +1,6 @@
 -- The array holds the letters of the table.
 use mathlib.Core.Path.{refl}
 use Rattle.listing.specs.Mnemonics.{letters}
-use borrow.Author.Rules.{rules}
 use Rattle.listing.proofs.names.name_of.Goals as goal
 
 pub returns : goal.returns

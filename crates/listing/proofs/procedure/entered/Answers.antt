@@ -1,10 +1,8 @@
 -- What is left of the search gives the same answer.
-use mathlib.Core.Path.{◌≡◌, refl, sym, ◌∙◌, ap}
-use Prim.Native.Nat.{◌-◌, ◌<◌, ◌≤◌}
-use Rattle.mcode.specs.Image.{proc_count}
+use mathlib.Core.Path.{refl, sym, ◌∙◌, ap}
 use Rattle.listing.specs.declared.procedure.Procedure.{Procedure}
 use Rattle.listing.specs.Shape.{procedure_of}
-use Rattle.listing.specs.First.{first_from, enters}
+use Rattle.listing.specs.First.{enters}
 use Rattle.listing.proofs.Least.{first-here, first-later, first-none}
 use borrow.Author.Tests.{ne_eqb, eq-eqb}
 use borrow.Author.Rules.{rules}

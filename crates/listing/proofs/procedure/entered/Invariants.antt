@@ -1,12 +1,7 @@
-use mathlib.Core.Path.{◌≡◌, refl, sym, ◌∙◌, ap}
+use mathlib.Core.Path.{◌≡◌}
 use Prim.Native.Nat.{◌-◌, ◌<◌, ◌≤◌}
 use Rattle.mcode.specs.Image.{proc_count}
-use Rattle.listing.specs.declared.procedure.Procedure.{Procedure}
-use Rattle.listing.specs.Shape.{procedure_of}
 use Rattle.listing.specs.First.{first_from, enters}
-use Rattle.listing.proofs.Least.{first-here, first-later, first-none}
-use borrow.Author.Tests.{ne_eqb, eq-eqb}
-use borrow.Author.Rules.{rules}
 use Rattle.listing.proofs.procedure.entered.Given as goal
 
 abbrev pub invariant-loop-i : goal.invariant-loop-i

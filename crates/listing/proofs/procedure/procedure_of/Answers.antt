@@ -4,7 +4,6 @@ use Prim.Native.Nat.{◌+◌, ◌*◌}
 use Rattle.listing.specs.Shape.{procedure_of}
 use native.Mathlib.Omega.{arith}
 use borrow.Author.Tests.{ne_eqb, eq-eqb}
-use borrow.Author.Rules.{rules}
 use Rattle.listing.proofs.procedure.procedure_of.Goals as goal
 
 pub returns-then-m-eq0 : goal.returns-then-m-eq0

@@ -1,9 +1,8 @@
 -- What is left of the search gives the same answer.
-use mathlib.Core.Path.{◌≡◌, refl, ◌∙◌, ap}
+use mathlib.Core.Path.{refl, ◌∙◌, ap}
 use mathlib.Core.Bool.{not}
-use Prim.Native.Nat.{◌-◌, ◌≤◌}
 use lib.ListN.{length}
-use Rattle.listing.specs.First.{first_from, is_marked}
+use Rattle.listing.specs.First.{is_marked}
 use Rattle.listing.proofs.Least.{first-here, first-later, first-none}
 use borrow.Author.Tests.{ne_eqb, eq-eqb}
 use borrow.Author.Rules.{rules}

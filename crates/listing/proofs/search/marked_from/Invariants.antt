@@ -1,11 +1,7 @@
-use mathlib.Core.Path.{◌≡◌, refl, ◌∙◌, ap}
-use mathlib.Core.Bool.{not}
+use mathlib.Core.Path.{◌≡◌}
 use Prim.Native.Nat.{◌-◌, ◌≤◌}
 use lib.ListN.{length}
 use Rattle.listing.specs.First.{first_from, is_marked}
-use Rattle.listing.proofs.Least.{first-here, first-later, first-none}
-use borrow.Author.Tests.{ne_eqb, eq-eqb}
-use borrow.Author.Rules.{rules}
 use Rattle.listing.proofs.search.marked_from.Given as goal
 
 abbrev pub invariant-loop-i : goal.invariant-loop-i

@@ -1,7 +1,4 @@
 -- `vectors::output::put_text` is safe and ends: the measure is the letters that are left. Nothing has to hold from turn to turn.
-use Prim.Native.Nat.{◌-◌}
-use borrow.Author.Rules.{rules}
-use lib.ListN.{length}
 use Rattle.vectors.proofs.output.put_text.Goals as goal
 
 pub loop-i-init : goal.loop-i-init

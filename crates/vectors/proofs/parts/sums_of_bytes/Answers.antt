@@ -1,8 +1,5 @@
 -- `vectors::parts::sums_of_bytes` is safe and ends: the measure is the bytes that are left. Nothing has to hold from turn to turn.
-use Prim.Native.Nat.{◌-◌}
 use native.Mathlib.Omega.{arith}
-use borrow.Author.Rules.{rules}
-use lib.ListN.{length}
 use Rattle.vectors.proofs.parts.sums_of_bytes.Goals as goal
 
 pub begun-sums-requires : goal.begun-sums-requires

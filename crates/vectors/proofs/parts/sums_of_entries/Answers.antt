@@ -1,7 +1,4 @@
 -- `vectors::parts::sums_of_entries` is safe and ends: the measure is the entries that are left. Nothing has to hold from turn to turn.
-use Prim.Native.Nat.{◌-◌}
-use borrow.Author.Rules.{rules}
-use lib.ListN.{length}
 use Rattle.vectors.proofs.parts.sums_of_entries.Goals as goal
 
 pub begun-sums-requires : goal.begun-sums-requires

@@ -1,6 +1,4 @@
 -- `vectors::reading::fill_entries` is safe and ends: the measure is the entries that are left. Nothing has to hold from turn to turn.
-use Prim.Native.Nat.{◌-◌}
-use borrow.Author.Rules.{rules}
 use Rattle.vectors.proofs.reading.fill_entries.Goals as goal
 
 pub loop-i-init : goal.loop-i-init

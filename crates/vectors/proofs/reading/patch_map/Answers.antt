@@ -1,5 +1,4 @@
 -- `vectors::reading::patch_map` is safe and ends: the measure is the patches that are left. Nothing has to hold from turn to turn.
-use borrow.Author.Rules.{rules}
 use Rattle.vectors.proofs.reading.patch_map.Goals as goal
 
 pub next_word-next-requires : goal.next_word-next-requires

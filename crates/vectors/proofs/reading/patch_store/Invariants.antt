@@ -1,4 +1,3 @@
-use borrow.Author.Rules.{rules}
 use Rattle.vectors.proofs.reading.patch_store.Given as goal
 
 abbrev pub invariant-loop-left : goal.invariant-loop-left

@@ -1,6 +1,4 @@
 -- `vectors::reading::read_image` is safe and ends: the measure is the words that are left. Nothing has to hold from turn to turn.
-use Prim.Native.Nat.{◌-◌}
-use borrow.Author.Rules.{rules}
 use Rattle.vectors.proofs.reading.read_image.Goals as goal
 
 pub loop-k-init : goal.loop-k-init

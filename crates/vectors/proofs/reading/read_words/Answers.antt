@@ -1,6 +1,4 @@
 -- `vectors::reading::read_words` is safe and ends: the measure is the words that are left. Nothing has to hold from turn to turn.
-use Prim.Native.Nat.{◌-◌}
-use borrow.Author.Rules.{rules}
 use Rattle.vectors.proofs.reading.read_words.Goals as goal
 
 pub loop-i-init : goal.loop-i-init

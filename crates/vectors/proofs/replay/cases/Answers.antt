@@ -1,6 +1,4 @@
 -- `vectors::replay::cases` is safe and ends: the measure is the cases that are left. Nothing has to hold from turn to turn.
-use Prim.Native.Nat.{◌-◌}
-use borrow.Author.Rules.{rules}
 use Rattle.vectors.proofs.replay.cases.Goals as goal
 
 pub loop-k-init : goal.loop-k-init

@@ -1,5 +1,4 @@
 -- `vectors::replay::replay_runs` is safe and ends: the measure is the runs that are left. Nothing has to hold from turn to turn.
-use borrow.Author.Rules.{rules}
 use Rattle.vectors.proofs.replay.replay_runs.Goals as goal
 
 pub loop-left-init : goal.loop-left-init

@@ -1,4 +1,3 @@
-use borrow.Author.Rules.{rules}
 use Rattle.vectors.proofs.replay.replay_runs.Given as goal
 
 abbrev pub invariant-loop-left : goal.invariant-loop-left

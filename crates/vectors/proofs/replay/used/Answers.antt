@@ -1,6 +1,4 @@
 -- `vectors::replay::used` is safe and ends: the measure is the words that are left. The invariant keeps the index in range.
-use Prim.Native.Nat.{◌≤◌}
-use borrow.Author.Rules.{rules}
 use Rattle.vectors.proofs.replay.used.Goals as goal
 
 pub returns-then-stack-n-ne0 : goal.returns-then-stack-n-ne0

@@ -1,5 +1,4 @@
 use Prim.Native.Nat.{◌≤◌}
-use borrow.Author.Rules.{rules}
 use Rattle.vectors.proofs.replay.used.Given as goal
 
 abbrev pub invariant-loop-n : goal.invariant-loop-n

@@ -5,10 +5,10 @@
 ghost use Rattle.std.specs.Prelude.{◌≡◌};
 ghost use Rattle.capi.specs.Answers.{LoadLeft, ArchiveLeft, start_left, start_words, run_left, run_words};
 
-use crate::words::{pack, put_answer, unpack};
+use crate::packing::{pack, put_answer, unpack};
 use mcode::Ending;
 
-mod words;
+mod packing;
 
 // The number of the refusal, 1 to 8 or 13, or 0, and the place: the module and the position at fault with 13, else 0 and 0. 20 where the
 // place is not 2 words, and then nothing is changed.

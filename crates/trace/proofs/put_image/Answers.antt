@@ -1,7 +1,6 @@
 -- The store and its copy are lent in their first words.
 use mathlib.Core.Path.{sym}
 use lib.Seq.{length-take-le}
-use borrow.Author.Rules.{rules}
 use Rattle.trace.proofs.put_image.Goals as goal
 
 pub slice_bounds-put_run-end-2 : goal.slice_bounds-put_run-end-2

@@ -1,5 +1,4 @@
 use mathlib.Core.Path.{◌∙◌}
-use borrow.Author.Rules.{rules}
 use Rattle.trace.proofs.put_steps.Goals as goal
 
 pub shape_of-store-then-flush : goal.shape_of-store-then-flush

@@ -1,6 +1,4 @@
 -- Safe, and ends.
-use Prim.Native.Nat.{◌-◌}
-use borrow.Author.Rules.{rules}
 use Rattle.list.proofs.code.put_bytes.Goals as goal
 
 pub loop-p-init : goal.loop-p-init

@@ -1,5 +1,4 @@
 use Prim.Native.Nat.{◌-◌}
-use borrow.Author.Rules.{rules}
 use Rattle.list.proofs.code.put_bytes.Given as goal
 
 abbrev pub invariant-loop-p : goal.invariant-loop-p

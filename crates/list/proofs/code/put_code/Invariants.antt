@@ -1,7 +1,6 @@
 use mathlib.Core.Path.{◌≡◌}
 use Prim.Native.Nat.{◌-◌}
 use lib.ListN.{length}
-use borrow.Author.Rules.{rules}
 use Rattle.list.proofs.code.put_code.Given as goal
 
 abbrev pub invariant-loop-here : goal.invariant-loop-here

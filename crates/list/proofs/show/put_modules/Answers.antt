@@ -1,9 +1,5 @@
 -- Safe, and ends.
-use mathlib.Core.Path.{◌≡◌, refl, ◌∙◌}
-use Prim.Native.Nat.{◌-◌}
-use lib.ListN.{length}
-use borrow.Author.Rules.{rules}
-use Rattle.mcode.specs.Image.{most_modules}
+use mathlib.Core.Path.{refl, ◌∙◌}
 use Rattle.list.proofs.show.put_modules.Goals as goal
 
 pub loop-k-init : goal.loop-k-init

@@ -1,6 +1,5 @@
 use mathlib.Core.Path.{refl}
 use borrow.Author.Tests.{lt-ltb, le-ltb}
-use borrow.Author.Rules.{rules}
 use Rattle.trace.proofs.process.from_top.Goals as goal
 
 pub returns-then-depth-i : goal.returns-then-depth-i

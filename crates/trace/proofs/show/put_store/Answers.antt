@@ -1,8 +1,5 @@
 -- Safe, and ends.
-use mathlib.Core.Path.{◌≡◌, refl}
-use Prim.Native.Nat.{◌-◌}
-use lib.ListN.{length}
-use borrow.Author.Rules.{rules}
+use mathlib.Core.Path.{refl}
 use Rattle.trace.proofs.show.put_store.Goals as goal
 
 pub loop-i-init : goal.loop-i-init

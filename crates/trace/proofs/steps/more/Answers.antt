@@ -5,7 +5,6 @@ use Rattle.mcode.specs.Demands.{joined}
 use Rattle.engine.specs.Ran.{answered}
 use Rattle.trace.proofs.Most.{at_most}
 use native.Mathlib.Omega.{arith}
-use borrow.Author.Rules.{rules}
 use Rattle.trace.proofs.steps.more.Goals as goal
 
 pub overflow_add-result : goal.overflow_add-result

@@ -4,7 +4,6 @@ use Prim.Native.Nat.{◌-◌, ◌+◌, ◌≤◌}
 use Rattle.trace.proofs.Most.{at_most}
 use Rattle.trace.proofs.Together.{goes_on, all-run}
 use native.Mathlib.Omega.{arith}
-use borrow.Author.Rules.{rules}
 use Rattle.trace.proofs.steps.traced.Goals as goal
 
 pub more-requires : goal.more-requires

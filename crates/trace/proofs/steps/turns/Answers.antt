@@ -1,10 +1,6 @@
 -- After each turn, what was run so far is one run of as many steps as there were turns.
-use mathlib.Core.Path.{◌≡◌, refl, ◌∙◌}
-use Prim.Native.Nat.{◌-◌, ◌≤◌}
-use lib.ListN.{length}
-use Rattle.mcode.specs.Machine.{state, live}
-use Rattle.mcode.specs.Run.{run_of}
-use Rattle.engine.specs.Ran.{answered}
+use mathlib.Core.Path.{refl, ◌∙◌}
+use Prim.Native.Nat.{◌≤◌}
 use Rattle.trace.proofs.Most.{at_most}
 use Rattle.trace.proofs.Together.{begins, goes_on, from_start}
 use native.Mathlib.Omega.{arith}

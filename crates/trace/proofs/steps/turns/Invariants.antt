@@ -1,13 +1,9 @@
-use mathlib.Core.Path.{◌≡◌, refl, ◌∙◌}
+use mathlib.Core.Path.{◌≡◌}
 use Prim.Native.Nat.{◌-◌, ◌≤◌}
 use lib.ListN.{length}
 use Rattle.mcode.specs.Machine.{state, live}
 use Rattle.mcode.specs.Run.{run_of}
 use Rattle.engine.specs.Ran.{answered}
-use Rattle.trace.proofs.Most.{at_most}
-use Rattle.trace.proofs.Together.{begins, goes_on, from_start}
-use native.Mathlib.Omega.{arith}
-use borrow.Author.Rules.{rules}
 use Rattle.trace.proofs.steps.turns.Given as goal
 
 abbrev pub invariant-loop-done : goal.invariant-loop-done

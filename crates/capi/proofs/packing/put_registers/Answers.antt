@@ -2,7 +2,7 @@ use mathlib.Core.Path.{refl}
 use lib.ListN.{length-set}
 use Rattle.mcode.specs.Step.{written}
 use native.Mathlib.Omega.{arith}
-use Rattle.capi.proofs.words.put_registers.Goals as goal
+use Rattle.capi.proofs.packing.put_registers.Goals as goal
 
 pub bounds-words-4 : goal.bounds-words-4
 bounds-words-4 c = simp length-set (omega arith)

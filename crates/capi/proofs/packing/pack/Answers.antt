@@ -3,7 +3,7 @@ use Rattle.mcode.specs.Step.{written}
 use Rattle.capi.specs.Words.{words_of}
 use Rattle.capi.proofs.Written.{overwritten}
 use native.Mathlib.Omega.{arith}
-use Rattle.capi.proofs.words.pack.Goals as goal
+use Rattle.capi.proofs.packing.pack.Goals as goal
 
 pub returns : goal.returns
 unfolding written

@@ -4,7 +4,7 @@ use lib.ListN.{get_or, set, drop, length-set, length-drop}
 use lib.Seq.{get_or-set_same, get_or-set_other, get_or-drop, ext_get_or}
 use borrow.Author.Count.{below_more, below_none}
 use native.Mathlib.Omega.{arith}
-use Rattle.capi.proofs.words.stack_of.Goals as goal
+use Rattle.capi.proofs.packing.stack_of.Goals as goal
 
 pub loop-i-init : goal.loop-i-init
 loop-i-init c = (omega arith, refl, below_none _)

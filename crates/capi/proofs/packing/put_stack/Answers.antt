@@ -3,7 +3,7 @@ use Prim.Native.Nat.{◌+◌}
 use lib.ListN.{get_or, length-set}
 use Rattle.mcode.proofs.Writes.{next-written, none_written}
 use native.Mathlib.Omega.{arith}
-use Rattle.capi.proofs.words.put_stack.Goals as goal
+use Rattle.capi.proofs.packing.put_stack.Goals as goal
 
 pub loop-i-init : goal.loop-i-init
 loop-i-init c = (omega arith, refl, refl)

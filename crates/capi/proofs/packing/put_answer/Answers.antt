@@ -2,7 +2,7 @@ use mathlib.Core.List.{[], ◌∷◌}
 use Rattle.mcode.specs.Step.{written}
 use Rattle.capi.proofs.Written.{overwritten}
 use native.Mathlib.Omega.{arith}
-use Rattle.capi.proofs.words.put_answer.Goals as goal
+use Rattle.capi.proofs.packing.put_answer.Goals as goal
 
 pub returns : goal.returns
 unfolding written

@@ -1,15 +1,14 @@
 -- The values of a list, one after another. Assumes nothing.
 use mathlib.Core.Path.{◌≡◌, refl, sym, ap, ap₂, ◌∙◌}
-use mathlib.Core.Bool.{Bool, true, false}
+use mathlib.Core.Bool.{Bool, false}
 use mathlib.Core.List.{List, [], ◌∷◌, ◌++◌}
 use Prim.Native.Nat.{ℕ, zero, suc, ◌+◌, ◌-◌, ◌≤◌, ◌<◌}
 use native.Mathlib.Decide.{ℕ_discrete}
 use native.Mathlib.Omega.{arith}
-use borrow.Author.Tests.{ne_eqb, eq-eqb}
-use lib.Dec.{eqb}
+use borrow.Author.Tests.{ne_eqb}
 use lib.ListN.{length, length-drop, get_or, take, drop}
 use lib.Seq.{take-suc, drop-nil, drop-cons, drop-length, get_or-drop}
-use Rattle.mcode.specs.Word.{pick, and}
+use Rattle.mcode.specs.Word.{and}
 use Rattle.console.specs.Decimals.{number_of}
 use Rattle.reading.specs.Values.{Ends, is_word, words_behind}
 

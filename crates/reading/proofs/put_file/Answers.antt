@@ -1,7 +1,6 @@
 use mathlib.Core.Path.{sym}
 use lib.Seq.{length-take-le}
 use native.Mathlib.Omega.{arith}
-use borrow.Author.Rules.{rules}
 use Rattle.reading.proofs.put_file.Goals as goal
 
 pub slice_bounds-put_reading-end : goal.slice_bounds-put_reading-end

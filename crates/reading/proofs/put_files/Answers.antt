@@ -1,8 +1,5 @@
 -- Safe, and it ends: the measure is the arguments that are left. The buffers keep their lengths.
-use mathlib.Core.Path.{◌≡◌, refl}
-use Prim.Native.Nat.{◌-◌}
-use lib.ListN.{length}
-use borrow.Author.Rules.{rules}
+use mathlib.Core.Path.{refl}
 use Rattle.reading.proofs.put_files.Goals as goal
 
 pub loop-i-init : goal.loop-i-init

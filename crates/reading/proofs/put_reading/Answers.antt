@@ -1,7 +1,6 @@
 -- The store is lent in its first words.
 use mathlib.Core.Path.{sym}
 use lib.Seq.{length-take-le}
-use borrow.Author.Rules.{rules}
 use Rattle.reading.proofs.put_reading.Goals as goal
 
 pub slice_bounds-put_answer-end-2 : goal.slice_bounds-put_answer-end-2

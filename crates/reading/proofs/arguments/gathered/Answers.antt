@@ -1,6 +1,4 @@
 -- Safe, and ends.
-use Prim.Native.Nat.{◌-◌}
-use borrow.Author.Rules.{rules}
 use Rattle.reading.proofs.arguments.gathered.Goals as goal
 
 pub loop-i-init : goal.loop-i-init

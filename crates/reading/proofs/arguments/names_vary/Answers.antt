@@ -1,5 +1,4 @@
-use mathlib.Core.Path.{ap, sym, ◌∙◌}
-use borrow.Author.Rules.{rules}
+use mathlib.Core.Path.{ap, ◌∙◌}
 use Rattle.console.specs.Choices.{same_text}
 use Rattle.reading.specs.Values.{vary_text}
 use Rattle.reading.proofs.arguments.names_vary.Goals as goal

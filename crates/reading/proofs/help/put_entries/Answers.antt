@@ -1,6 +1,4 @@
 -- Safe, and it ends: the measure is the numbers that are left.
-use Prim.Native.Nat.{◌-◌}
-use borrow.Author.Rules.{rules}
 use Rattle.reading.proofs.help.put_entries.Goals as goal
 
 pub loop-number-init : goal.loop-number-init

@@ -1,5 +1,4 @@
 use Prim.Native.Nat.{◌-◌}
-use borrow.Author.Rules.{rules}
 use Rattle.reading.proofs.help.put_entries.Given as goal
 
 abbrev pub invariant-loop-number : goal.invariant-loop-number

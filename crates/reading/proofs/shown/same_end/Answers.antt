@@ -1,6 +1,5 @@
 use mathlib.Core.Path.{refl}
 use borrow.Author.Tests.{eq-eqb, ne_eqb}
-use borrow.Author.Rules.{rules}
 use Rattle.reading.proofs.shown.same_end.Goals as goal
 
 pub returns-then-number_of : goal.returns-then-number_of

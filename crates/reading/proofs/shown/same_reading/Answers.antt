@@ -1,6 +1,5 @@
 use mathlib.Core.Path.{refl}
-use borrow.Author.Tests.{eq-eqb, ne_eqb, not-true, not-false}
-use borrow.Author.Rules.{rules}
+use borrow.Author.Tests.{eq-eqb, ne_eqb}
 use Rattle.reading.specs.Same.{same_reading}
 use Rattle.reading.proofs.shown.same_reading.Goals as goal
 

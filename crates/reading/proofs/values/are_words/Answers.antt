@@ -1,14 +1,12 @@
-use mathlib.Core.Path.{◌≡◌, refl, sym, ap, ◌∙◌}
+use mathlib.Core.Path.{refl, sym, ap, ◌∙◌}
 use mathlib.Core.Bool.{Bool}
 use mathlib.Core.List.{[]}
-use Prim.Native.Nat.{◌+◌, ◌-◌}
+use Prim.Native.Nat.{◌+◌}
 use native.Mathlib.Omega.{arith}
-use lib.ListN.{length, drop}
-use borrow.Author.Tests.{not-true, not-false}
+use lib.ListN.{drop}
 use Rattle.mcode.specs.Word.{and}
-use Rattle.reading.specs.Values.{are_words, words_behind}
+use Rattle.reading.specs.Values.{words_behind}
 use Rattle.reading.proofs.Lists.{last-value, first-value, bad-value, no_value}
-use borrow.Author.Rules.{rules}
 use Rattle.reading.proofs.values.are_words.Goals as goal
 
 pub loop-at-init : goal.loop-at-init

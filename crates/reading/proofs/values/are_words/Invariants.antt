@@ -1,14 +1,8 @@
-use mathlib.Core.Path.{◌≡◌, refl, sym, ap, ◌∙◌}
-use mathlib.Core.Bool.{Bool}
+use mathlib.Core.Path.{◌≡◌}
 use mathlib.Core.List.{[]}
-use Prim.Native.Nat.{◌+◌, ◌-◌}
-use native.Mathlib.Omega.{arith}
+use Prim.Native.Nat.{◌-◌}
 use lib.ListN.{length, drop}
-use borrow.Author.Tests.{not-true, not-false}
-use Rattle.mcode.specs.Word.{and}
 use Rattle.reading.specs.Values.{are_words, words_behind}
-use Rattle.reading.proofs.Lists.{last-value, first-value, bad-value, no_value}
-use borrow.Author.Rules.{rules}
 use Rattle.reading.proofs.values.are_words.Given as goal
 
 abbrev pub invariant-loop-at : goal.invariant-loop-at

@@ -1,6 +1,5 @@
 use mathlib.Core.Path.{refl, sym, ◌∙◌}
 use borrow.Author.Tests.{le-leb, lt-leb}
-use borrow.Author.Rules.{rules}
 use Rattle.reading.specs.Values.{channel_of}
 use Rattle.reading.proofs.values.channel_of.Goals as goal
 

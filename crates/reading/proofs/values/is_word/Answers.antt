@@ -1,5 +1,4 @@
 use mathlib.Core.Path.{refl, sym, ◌∙◌}
-use borrow.Author.Rules.{rules}
 use Rattle.reading.specs.Values.{is_word}
 use Rattle.reading.proofs.values.is_word.Goals as goal
 

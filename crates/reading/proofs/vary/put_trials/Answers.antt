@@ -1,9 +1,6 @@
 -- Safe, and it ends: the measure is the bytes that are left. The buffers keep their lengths.
-use mathlib.Core.Path.{◌≡◌, refl}
-use Prim.Native.Nat.{◌-◌}
+use mathlib.Core.Path.{refl}
 use native.Mathlib.Omega.{arith}
-use lib.ListN.{length}
-use borrow.Author.Rules.{rules}
 use Rattle.reading.proofs.vary.put_trials.Goals as goal
 
 pub loop-at-init : goal.loop-at-init

@@ -1,16 +1,17 @@
 -- The registers as the stepping loop holds them, and how what it leaves is what mcode defines.
-use Rattle.std.specs.Prelude.{◌≡◌, ℕ, ◌+◌, ◌-◌, ◌^◌, ◌≤◌, List, ◌==◌, bit_or, slice_index}
+use Rattle.std.specs.Prelude.{◌≡◌, ℕ, zero, suc, ◌+◌, ◌-◌, ◌^◌, ◌≤◌, List, Option, Some, None, Result, Ok, Err, ◌==◌, bit_or, length, ltb, get_or, set, slice_index}
 use Rattle.mcode.specs.Word.{pick}
 use Rattle.mcode.specs.Image.{bases_of}
-use Rattle.mcode.specs.Machine.{State, state, Outcome, go, halt, position, machine, pair_at, stop_number, stop_code}
+use Rattle.mcode.specs.Machine.{State, state, Outcome, go, halt, at as placed_at, depth, position, machine, pair_at}
 use Rattle.mcode.specs.Decode.{Action, decode_of}
-use Rattle.mcode.specs.Step.{Lent, perform_of, computed, goes, reads_pair}
+use Rattle.mcode.specs.Step.{Lent, perform_of, computed, goes, has_pair, reads_pair}
 use Rattle.mcode.specs.declared.Machine.{Machine}
 use Rattle.mcode.specs.declared.Position.{Position}
 use Rattle.mcode.specs.declared.Registers.{Registers}
-use Rattle.mcode.specs.declared.Value.{Value}
+use Rattle.mcode.specs.declared.Stop.{Stop}
+use Rattle.mcode.specs.declared.Stop.TheVariants.{Spent, BadAddress}
+use Rattle.mcode.specs.Word.{Value}
 use Rattle.actions.specs.declared.Core.{Core}
-use Rattle.actions.specs.declared.Stepped.{Stepped}
 
 -- the registers of the definition: pc is the place in the image, so the position is counted from the start of the module's code
 abbrev pub shown : Core → Registers
@@ -19,22 +20,28 @@ shown r = record { unit = r.unit; pc = position (r.pc - r.start); l = r.l; s = r
 abbrev pub held : Core → List ℕ → List ℕ → List ℕ → State
 held r stack store out = state (machine (shown r) stack) store out
 
--- a stop (0: none) with its code, and the state then: "A trap or an end leaves everything as before its instruction."
+-- a stop, if there is one, and the state then: "A trap or an end leaves everything as before its instruction."
 pub record Left : Type 0 where
-  pub stop : ℕ
-  pub code : ℕ
+  pub stop : Option Stop
   pub state : State
 
 abbrev pub left_by : State → Outcome → Left
-left_by x (go y) = record { stop = 0; code = 0; state = y }
-left_by x (halt k) = record { stop = stop_number k; code = stop_code k; state = x }
+left_by x (go y) = record { stop = None; state = y }
+left_by x (halt k) = record { stop = Some k; state = x }
 
--- what a function answered, with what it left behind its references
-abbrev pub result_of : Stepped → List ℕ → List ℕ → List ℕ → Left
-result_of q stack store out = record { stop = q.stop; code = q.code; state = held q.core stack store out }
+-- what a function answers: the registers after it, or a stop
+abbrev pub Stepped : Type 0
+Stepped = Result Core Stop
 
-abbrev pub stepped : ℕ → ℕ → Core → Stepped
-stepped n k r = record { stop = n; code = k; core = r }
+-- the registers then: with a stop they are as they were
+abbrev pub after : Core → Stepped → Core
+after r (Ok q) = q
+after r (Err k) = r
+
+-- what a function answered that was given the registers r, with what it left behind its references
+abbrev pub result_of : Core → Stepped → List ℕ → List ℕ → List ℕ → Left
+result_of r (Ok q) stack store out = record { stop = None; state = held q stack store out }
+result_of r (Err k) stack store out = record { stop = Some k; state = held r stack store out }
 
 abbrev pub at : ℕ → ℕ → Core → Core
 at to d r = record { pc = to; depth = d; start = r.start; unit = r.unit; g = r.g; l = r.l; s = r.s; h = r.h; p = r.p; mask = r.mask }
@@ -50,6 +57,35 @@ abbrev pub replaced : (Position → Machine → ℕ → Machine) → ℕ → Val
 replaced by to v r stack store out =
     let x = held r stack store out in
     left_by x (computed v (λ w. goes x (by (position (to - r.start)) x.machine w)))
+
+-- n less than a number: what `-` is, but that with 0 it computes
+abbrev pub less : ℕ → ℕ → ℕ
+less zero d = d
+less (suc n) d = d - suc n
+
+-- a stack of d words with the top n cleared
+abbrev pub cleared : ℕ → ℕ → List ℕ → List ℕ
+cleared zero d stack = stack
+cleared (suc n) d stack = set (cleared n d stack) (d - suc n) 0
+
+-- v in the place of the top word and of n words below it: at 0, 1 and 2 mcode's `replace1`, `replace2` and `replace3`
+abbrev pub replaces : ℕ → Position → Machine → ℕ → Machine
+replaces n q m v = machine (placed_at q (less n (depth m)) m.registers) (set (cleared n (depth m) m.stack) (depth m - (n + 1)) v)
+
+-- the word at an address, or 32
+abbrev pub read_word : List ℕ → ℕ → Value
+read_word store a = pick (ltb a (length store)) (Ok (get_or store a 0)) (Err BadAddress)
+
+-- whether a word can be written there, or 32; the store with the word, where it can
+abbrev pub has_word : List ℕ → ℕ → Result Unit Stop
+has_word store a = pick (ltb a (length store)) (Ok tt) (Err BadAddress)
+
+abbrev pub write_word : List ℕ → ℕ → ℕ → List ℕ
+write_word store a v = pick (ltb a (length store)) (set store a v) store
+
+-- the same of a pair, in a store of w words
+abbrev pub has_both : ℕ → ℕ → Result Unit Stop
+has_both w a = pick (has_pair w a) (Ok tt) (Err BadAddress)
 
 -- a pair of words that is read at a and put from place n of the stack on, or its trap
 abbrev pub fetched : ℕ → ℕ → ℕ → Core → List ℕ → List ℕ → List ℕ → Left
@@ -70,15 +106,16 @@ spent_op = 0o340
 -- an instruction, or the spent opcode: "30 spent"
 unfoldable pub performed : Lent → ℕ → (ℕ → ℕ) → Core → List ℕ → List ℕ → List ℕ → Left
 performed lent op o r stack store out =
-    pick (op == spent_op) (record { stop = 30; code = 0; state = held r stack store out }) (instruction lent op o r stack store out)
+    pick (op == spent_op) (record { stop = Some Spent; state = held r stack store out }) (instruction lent op o r stack store out)
 
 -- the bit of the channel that an instruction takes if it is completed: a READ, 240, takes channel a
 abbrev pub read_at : ℕ → Core → List ℕ → ℕ
 read_at op r stack = pick (op == 0o240) (2 ^ slice_index stack (r.depth - 1)) 0
 
--- the word of channels behind an instruction that ended so (0: completed) and takes these bits
-abbrev pub unites : ℕ → ℕ → ℕ → ℕ
-unites stop w bits = pick (stop == 0) (bit_or w bits) w
+-- the word of channels behind an instruction that takes these bits if it is completed
+abbrev pub unites : Stepped → ℕ → ℕ → ℕ
+unites (Ok q) w bits = bit_or w bits
+unites (Err k) w bits = w
 
 -- the module stays, and the place in its code
 pub record Stays (r q : Core) : Type 0 where

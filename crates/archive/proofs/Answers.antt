@@ -1,4 +1,5 @@
 -- What archive answers, case by case, from the answers of the reader and of load. Assumes nothing.
+use Rattle.std.proofs.Common.{Ok, Err}
 use mathlib.Core.Path.{◌≡◌, refl, sym, ap, subst}
 use mathlib.Core.Bool.{Bool, true, false}
 use mathlib.Core.List.{List, ◌++◌}
@@ -6,44 +7,56 @@ use Prim.Native.Nat.{ℕ, ◌≤◌, ◌<◌}
 use native.Mathlib.Omega.{arith}
 use lib.ListN.{length, drop}
 use lib.Dec.{ltb, leb}
-use borrow.Author.Tests.{le-leb, lt-leb, leb-false, lt-ltb, le-ltb}
+use borrow.Author.Tests.{le-leb, leb-false, lt-ltb, le-ltb}
 use Rattle.mcode.specs.Word.{pick}
-use Rattle.mcode.specs.Image.{parse}
+use Rattle.mcode.specs.Image.{Parsed, parse}
 use Rattle.mcode.specs.Run.{verdict, Loads}
-use Rattle.mcode.specs.Archive.{contents_of, contents, form, Delivery, delivery, none, withheld, deliver, Archives}
-use Rattle.mcode.specs.declared.Delivered.{Delivered}
-use Rattle.mcode.specs.declared.Parsed.{Parsed}
-use Rattle.mcode.specs.declared.Verdict.{Verdict}
+use Rattle.mcode.specs.Answer.{refusal_number, refusal_verdict, parsed_of, delivered_of}
+use Rattle.mcode.specs.Archive.{contents_of, contents, form, Delivery, delivery, withheld, deliver, Archives}
+use Rattle.mcode.specs.declared.Program.{Program}
+use Rattle.mcode.specs.declared.Refusal.{Refusal}
+use Rattle.mcode.specs.declared.Refusal.TheVariants.{ImageSize, ModuleCount, ImageEnds, BytesAfter, BitMap, Field, MapShort, NoDepths, StoreSize, ChannelCount, NotAMachine, MapUnfit, NotWhole, OutputShort}
 use Rattle.mcode.proofs.Load.{passed}
 use Rattle.mcode.proofs.Reader.{told}
 use Rattle.mcode.proofs.FormOf.{form-short}
-use Rattle.loader.proofs.Answers.{refused-so as loaded-refused}
+use Rattle.loader.proofs.Early.{numbered}
 
--- an image that is not read
-pub unread-so : (image before output : List ℕ) (p : Parsed) → p ≡ parse image → 1 ≤ p.refusal → (r : Delivered) → r ≡ none p.refusal
-    → Archives image before output before (delivery r output)
-unread-so image before output p q h r e = (verdict p.refusal, loaded-refused image before p q (verdict p.refusal) h refl, rw (le-leb 1 p.refusal h, e) refl)
+number-is : (k : Refusal) → (refusal_verdict k).number ≡ refusal_number k
+number-is ImageSize = refl
+number-is ModuleCount = refl
+number-is ImageEnds = refl
+number-is BytesAfter = refl
+number-is BitMap = refl
+number-is Field = refl
+number-is MapShort = refl
+number-is NoDepths = refl
+number-is StoreSize = refl
+number-is ChannelCount = refl
+number-is NotAMachine = refl
+number-is MapUnfit = refl
+number-is (NotWhole unit pc) = refl
+number-is OutputShort = refl
 
-module _ (image before after : List ℕ) (v : Verdict) (L : Loads image before v after) where
-  pub refused-so : (output : List ℕ) → 1 ≤ v.number → (r : Delivered) → r ≡ none v.number → Archives image before output after (delivery r output)
-  refused-so output h r e = (v, L, rw (le-leb 1 v.number h, e) refl)
+module _ (image before after output : List ℕ) where
+  -- load's refusals
+  pub refused-so : (k : Refusal) → Loads image before (refusal_verdict k) after → Archives image before output after (delivery (delivered_of (Err k)) output)
+  refused-so k L = (refusal_verdict k, L, rw (number-is k, le-leb 1 (refusal_number k) (numbered k)) refl)
 
-  module _ (z : v.number < 1) (p : Parsed) (q : p ≡ parse image) where
+  module _ (program : Program) (e : parsed_of (Ok program) ≡ parse image) (L : Loads image before (verdict 0) after) where
     abbrev bytes : List ℕ
-    bytes = form (contents_of image p.program)
+    bytes = form (contents_of image program)
 
     bytes-are : bytes ≡ form (contents image)
     unfolding contents
-    bytes-are = ap (λ (p : Parsed). form (contents_of image p.program)) q
+    bytes-are = ap (λ (p : Parsed). form (contents_of image p.program)) e
 
-    pub short-so : (output : List ℕ) (n : ℕ) → n ≡ length bytes → length output < n → (r : Delivered) → r ≡ none 14 → Archives image before output after (delivery r output)
+    pub short-so : (n : ℕ) → n ≡ length bytes → length output < n → Archives image before output after (delivery (delivered_of (Err OutputShort)) output)
     unfolding deliver
-    short-so output n e h r f = (v, L, rw (lt-leb 1 v.number z, sym bytes-are, sym e, lt-ltb (length output) n h, f) refl)
+    short-so n f h = (verdict 0, L, rw (sym bytes-are, sym f, lt-ltb (length output) n h) refl)
 
-    pub whole-so : (output : List ℕ) (n : ℕ) → n ≡ length bytes → n ≤ length output → (u : List ℕ) → u ≡ bytes ++ drop (length bytes) output
-        → Archives image before output after (delivery (record { number = 0; length = n }) u)
+    pub whole-so : (n : ℕ) → n ≡ length bytes → n ≤ length output → (u : List ℕ) → u ≡ bytes ++ drop (length bytes) output → Archives image before output after (delivery (delivered_of (Ok n)) u)
     unfolding deliver
-    whole-so output n e h u f = (v, L, rw (lt-leb 1 v.number z, sym bytes-are, f, sym e, le-ltb (length output) n h) refl)
+    whole-so n f h u g = (verdict 0, L, rw (sym bytes-are, g, sym f, le-ltb (length output) n h) refl)
 
 -- the length that is answered is an image's
 pub answer-short : (image before output after : List ℕ) (d : Delivery) → Archives image before output after d → d.answer.length ≤ 65535

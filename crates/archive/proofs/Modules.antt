@@ -16,7 +16,8 @@ use Rattle.mcode.proofs.Tabulate.{length-tabulate}
 use Rattle.mcode.proofs.Writes.{written-whole}
 use Rattle.mcode.proofs.FormOf.{form-few, form-within}
 use Rattle.mcode.proofs.FormPieces.{modules-snoc}
-use Rattle.archive.specs.Form.{Put}
+use Rattle.placed.specs.declared.Placed.{Placed}
+use Rattle.archive.specs.Form.{content, Put}
 use Rattle.archive.proofs.Puts.{put_both, put-length}
 
 -- a part of the modules, and one more, is no more than all
@@ -31,6 +32,10 @@ part-within (suc n) (suc k) f l =
       length-append (module_form (f 0)) (modules_form (tabulate n (λ i. f (suc i)))),
       length-append (module_form (f 0)) (modules_form (tabulate k (λ i. f (suc i)))),
     )
+
+-- module k as it is placed
+pub placed-is : (image : List ℕ) (program : Program) (k : ℕ) (p : Placed) → (p.image.now ≡ image) × (p.begin ≡ begin_of program.modules k) × (p.m ≡ module_of program k) → content p ≡ content_of image program k
+placed-is image program k p e = λ i. content_at (e.0 i) (e.1 i) (e.2 i)
 
 module _ (image : List ℕ) (program : Program) (T : Told image program) where
   -- the form of the first k modules
@@ -51,31 +56,28 @@ module _ (image : List ℕ) (program : Program) (T : Told image program) where
       ends zero l = omega (arith, (T.laid.sound 0 T.some).within, (T.laid.spelt 0 T.some).table, (T.laid.spelt 0 T.some).code)
       ends (suc k) l = (T.laid.sound k l).within
 
-  -- the next module, whose bit map is at `begin`
-  module _ (k : ℕ) (l : k < program.count) (begin : ℕ) (e : begin ≡ begin_of program.modules k) where
-    abbrev next : List ℕ
-    next = module_form (content_at image begin (module_of program k))
+  -- the next module
+  module _ (k : ℕ) (l : k < program.count) (p : Placed) (e : content p ≡ content_of image program k) where
+    front-more : front (k + 1) ≡ front k ++ module_form (content p)
+    front-more = front-next k ∙ ap (λ (x : Content). front k ++ module_form x) (sym e)
 
-    front-more : front (k + 1) ≡ front k ++ next
-    front-more = front-next k ∙ ap (λ (b : ℕ). front k ++ module_form (content_at image b (module_of program k))) (sym e)
-
-    pub sum-next : (sum n : ℕ) → sum ≡ length (front k) → n ≡ length next → sum + n ≡ length (front (k + 1))
-    sum-next sum n p q = omega (arith, p, q, ap (λ (x : List ℕ). length x) front-more, length-append (front k) next)
+    pub sum-next : (sum n : ℕ) → sum ≡ 1 + length (front k) → n ≡ length (module_form (content p)) → sum + n ≡ 1 + length (front (k + 1))
+    sum-next sum n q r = omega (arith, q, r, ap (λ (x : List ℕ). length x) front-more, length-append (front k) (module_form (content p)))
 
     module _ (at : ℕ) (s : List ℕ) (to : ℕ) (t : List ℕ) (P : Put (front k) at s to t) where
-      pub room_next : at + length (front program.count) ≤ length s → to + length next ≤ length t
+      pub room_next : at + length (front program.count) ≤ length s → to + length (module_form (content p)) ≤ length t
       room_next r =
           omega (
             arith,
             part-within program.count k (content_of image program) l,
-            ap (λ (b : ℕ). length (module_form (content_at image b (module_of program k)))) e,
+            ap (λ (x : Content). length (module_form x)) e,
             r,
             P.next-is,
             put-length (front k) at s to t P,
           )
 
-      pub put_next : (to' : ℕ) (u : List ℕ) → Put next to t to' u → Put (front (k + 1)) at s to' u
-      put_next to' u Q = subst (λ (x : List ℕ). Put x at s to' u) (sym front-more) (put_both (front k) next at s to t to' u P Q)
+      pub put_next : (to' : ℕ) (u : List ℕ) → Put (module_form (content p)) to t to' u → Put (front (k + 1)) at s to' u
+      put_next to' u Q = subst (λ (x : List ℕ). Put x at s to' u) (sym front-more) (put_both (front k) (module_form (content p)) at s to t to' u P Q)
 
 -- ---- the whole form
 

@@ -1,52 +1,47 @@
 -- Which fields a module's form spells out, and how long it is. Assumes nothing.
+use Rattle.std.proofs.Common.{MatchOption, Option, None, Some, Bor}
+use Rattle.std.specs.Bool.{MatchBool}
+use Rattle.std.specs.List.{AllWithin, HoldsAt}
+use Rattle.std.specs.Option.{option_copied}
 use mathlib.Core.Path.{◌≡◌, refl, sym, ap, ◌∙◌}
 use mathlib.Core.Bool.{Bool, true, false, not, true≢false}
 use mathlib.Core.List.{List, [], ◌∷◌}
-use Prim.Native.Nat.{ℕ, ◌+◌, ◌*◌, ◌/◌, ◌%◌, ◌≤◌, ◌<◌}
+use Prim.Native.Nat.{ℕ, zero, suc, ◌+◌, ◌-◌, ◌*◌, ◌/◌, ◌%◌, ◌≤◌, ◌<◌}
+use native.Mathlib.Nat.{not-suc-le-zero}
 use native.Mathlib.Omega.{arith}
-use native.Mathlib.Numerals.{add-one}
-use lib.ListN.{length, get_or, drop, length-drop, length-append}
-use lib.Seq.{drop-cons}
+use lib.ListN.{length, get_or, replicate, length-append}
 use lib.Dec.{eqb}
 use borrow.Author.Tests.{eq-eqb, ne_eqb, eqb-false}
-use Rattle.mcode.specs.Word.{pick, and, truth, byte}
+use Rattle.mcode.specs.Word.{pick, and, slice, byte}
 use Rattle.mcode.specs.Image.{proc_count, entry_of, params_of, results_of}
 use Rattle.mcode.specs.Layout.{Lies}
-use Rattle.mcode.specs.Archive.{Content, procedure_of, name_of, content_at, word_bytes, records_bytes, Bits, bit_map, given, spelled, default, zeros, needed, module_form}
+use Rattle.mcode.specs.Archive.{Content, procedure_of, name_of, content_at, word_bytes, records_bytes, Bits, given, spelled, default, zeros, needed, module_form}
 use Rattle.mcode.specs.declared.Module.{Module}
 use Rattle.mcode.proofs.Tabulate.{length-tabulate}
 use Rattle.mcode.proofs.FormOf.{length-records, length-code, length-name}
 use Rattle.mcode.proofs.FormPieces.{default-tabulate, no-records}
+use Rattle.placed.specs.Name.{spelt_name}
 use Rattle.archive.specs.declared.fields.Fields.{Fields}
 use Rattle.archive.specs.Form.{bits, procs_of}
 
 -- ---- zeros
 
-pub zeros-next : (xs : List ℕ) (i : ℕ) → i < length xs → get_or xs i 0 ≡ 0 → zeros (drop i xs) ≡ zeros (drop (i + 1) xs)
-zeros-next xs i l e = rw (add-one i, drop-cons xs i 0 l, e) refl
+zeros-all : (xs : List ℕ) → ((k : ℕ) → k < length xs → get_or xs k 0 ≡ 0) → zeros xs ≡ true
+zeros-all [] h = refl
+zeros-all (x ∷ xs) h = rw (eq-eqb x 0 (h 0 (omega arith))) (zeros-all xs (λ k l. h (suc k) (omega (arith, l))))
 
-pub zeros-other : (xs : List ℕ) (i : ℕ) → i < length xs → (get_or xs i 0 ≡ 0 → ⊥) → zeros (drop i xs) ≡ false
-zeros-other xs i l n = rw (drop-cons xs i 0 l, ne_eqb (get_or xs i 0) 0 n) refl
-
-pub zeros-end : (xs : List ℕ) (i : ℕ) → length xs ≤ i → zeros (drop i xs) ≡ true
-zeros-end xs i l = none (drop i xs) (omega (arith, length-drop i xs, l))
+zeros-other : (xs : List ℕ) (k : ℕ) → k < length xs → (get_or xs k 0 ≡ 0 → ⊥) → zeros xs ≡ false
+zeros-other [] k l n = absurd (not-suc-le-zero l)
+zeros-other (x ∷ xs) zero l n = rw (ne_eqb x 0 n) refl
+zeros-other (x ∷ xs) (suc k) l n = by (eqb x 0) (zeros-other xs k (omega (arith, l)) n)
   where
-    none : (ys : List ℕ) → length ys ≡ 0 → zeros ys ≡ true
-    none [] e = refl
-    none (y ∷ ys) e = absurd (let z : ⊥ = omega (arith, e) in z)
+    by : (t : Bool) → zeros xs ≡ false → and t (zeros xs) ≡ false
+    by true e = e
+    by false e = refl
 
--- ---- the bit map
-
-pub picked : (b : Bool) (n r : ℕ) → r ≡ pick b n 0 → r ≤ n
-picked true n r e = omega (arith, e)
-picked false n r e = omega (arith, e)
-
-pub bit-map-is : (s l n : Bool) (i j k : ℕ) → i ≡ pick s 1 0 → j ≡ pick l 2 0 → k ≡ pick n 4 0 → i + j + k ≡ bit_map (record { sized = s; listing = l; named = n })
-bit-map-is s l n i j k a b c = omega (arith, weight s 1 i a, weight l 2 j b, weight n 4 k c)
-  where
-    weight : (b : Bool) (w i : ℕ) → i ≡ pick b w 0 → i ≡ w * truth b
-    weight true w i e = omega (arith, e)
-    weight false w i e = omega (arith, e)
+pub zeros-so : (xs : List ℕ) (r : Bool) → MatchBool r (AllWithin (λ x. x ≡ 0) xs 0 (length xs)) ((k : ℕ) × (k < length xs) × HoldsAt (λ x. x ≡ 0 → ⊥) xs k) → r ≡ zeros xs
+zeros-so xs true A = sym (zeros-all xs (λ k l. A k 0 (omega arith) l))
+zeros-so xs false (k, l, n) = sym (zeros-other xs k l (n 0))
 
 -- ---- the single default procedure
 
@@ -75,9 +70,18 @@ module _ (image : List ℕ) (m : Module) (l : m.procs ≤ 1) (e : ℕ) (a : e �
 
 -- ---- the name
 
-pub name-none : (image : List ℕ) (at : ℕ) (m : Module) → byte image at / 4 % 2 ≡ 0 → false ≡ not (zeros (name_of image at m))
+-- a name other than zeros, from what the image spells of it
+pub named-so : (image : List ℕ) (at : ℕ) (m : Module) (o : Option (Bor (List ℕ))) → option_copied o ≡ spelt_name image at m
+    → (r : Bool) (P : Bor (List ℕ) → Type 0) → ((x : Bor (List ℕ)) → P x → r ≡ not (zeros x.now)) → MatchOption o (r ≡ false) P → r ≡ not (zeros (name_of image at m))
 unfolding name_of
-name-none image at m e = rw (ne_eqb (byte image at / 4 % 2) 1 (λ z. omega (arith, e, z))) refl
+named-so image at m o e r P h M = by (eqb (byte image at / 4 % 2) 1) o e M
+  where
+    by : (t : Bool) (o : Option (Bor (List ℕ))) → option_copied o ≡ pick t (Some (slice image (m.table - 10) 8)) None → MatchOption o (r ≡ false) P
+        → r ≡ not (zeros (pick t (slice image (m.table - 10) 8) (replicate 8 0)))
+    by true None e M = absurd cc
+    by true (Some x) e M = let s : x.now ≡ slice image (m.table - 10) 8 = cc in h x M ∙ ap (λ (y : List ℕ). not (zeros y)) s
+    by false None e M = M
+    by false (Some x) e M = absurd cc
 
 -- ---- the fields together
 

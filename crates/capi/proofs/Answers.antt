@@ -12,9 +12,7 @@ use Rattle.mcode.specs.Image.{most_modules, parse}
 use Rattle.mcode.specs.Depths.{map_fits}
 use Rattle.mcode.specs.Machine.{State, Live, state, live, machine, zero_machine, is_machine}
 use Rattle.mcode.specs.Step.{step_of, step_read}
-use Rattle.mcode.specs.Run.{Started, RunEnd, RunLeft, refused, stopped, store_fits, lent_to, run_n, tally, step_tally, run_refusal, run_of, start_refusal, start_machine, start_store, start_of}
-use Rattle.mcode.specs.declared.Ending.{Ending}
-use Rattle.mcode.specs.declared.Ending.TheVariants.{Refused, Stopped}
+use Rattle.mcode.specs.Run.{Ending, Refused, Stopped, Started, RunEnd, RunLeft, refused, stopped, store_fits, lent_to, run_n, tally, step_tally, run_refusal, run_of, start_refusal, start_machine, start_store, start_of}
 use Rattle.mcode.specs.declared.Stop.{Stop}
 use Rattle.mcode.proofs.Reader.{told}
 use Rattle.mcode.proofs.Refusals.{accepted}

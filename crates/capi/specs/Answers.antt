@@ -3,12 +3,9 @@
 use Rattle.std.specs.Prelude.{◌≡◌, ℕ, List, [], ◌∷◌, length, eqb}
 use Rattle.mcode.specs.Word.{pick, and}
 use Rattle.mcode.specs.Machine.{state, live}
-use Rattle.mcode.specs.Run.{Started, RunLeft, Loads, start_of, run_of, ending_number, ending_code}
+use Rattle.mcode.specs.Run.{Verdict, Ending, Refused, Stopped, Started, RunLeft, Loads, start_of, run_of, ending_number, ending_code}
 use Rattle.mcode.specs.Archive.{delivery, Archives}
 use Rattle.mcode.specs.declared.Machine.{Machine}
-use Rattle.mcode.specs.declared.Verdict.{Verdict}
-use Rattle.mcode.specs.declared.Ending.{Ending}
-use Rattle.mcode.specs.declared.Ending.TheVariants.{Refused, Stopped}
 use Rattle.capi.specs.Words.{words_of, machine_of}
 
 -- the answer to a place that is not 2 words, a machine that is not 24 words, an answer that is not 4 numbers, or a length
@@ -17,6 +14,10 @@ abbrev pub wrong_length : ℕ
 wrong_length = 20
 
 -- ---- load
+
+-- the number, the module and the position
+abbrev pub place_words : Verdict → ℕ × ℕ × ℕ
+place_words v = (v.number, v.unit, v.pc.0)
 
 -- load's answer, as the number and the two words of the place: module and position
 pub record Said (image before : List ℕ) (number : ℕ) (after place : List ℕ) : Type 0 where

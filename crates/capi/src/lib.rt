@@ -5,8 +5,8 @@
 ghost use Rattle.std.specs.Prelude.{◌≡◌};
 ghost use Rattle.capi.specs.Answers.{LoadLeft, ArchiveLeft, start_left, start_words, run_left, run_words};
 
-use crate::packing::{pack, put_answer, unpack};
-use mcode::Ending;
+use crate::packing::{pack, place_of, put_answer, unpack};
+use loader::start::zero_machine;
 
 mod packing;
 
@@ -19,11 +19,10 @@ pub extern "C" fn cembuxola_load(image: &[u8], map: &mut [u32], place: &mut [u16
     if place.len() != 2 {
         return 20;
     }
-    let verdict = loader::load::load(image, map);
-    let pc = verdict.pc.0;
-    place[0] = verdict.unit as u16;
+    let (number, unit, pc) = place_of(loader::load::load(image, map));
+    place[0] = unit;
     place[1] = pc;
-    verdict.number
+    number
 }
 
 // The number of the refusal, 1 to 6 or 9, or 0, and the machine's words: zeros where start refuses. 20 where the machine is not 24
@@ -35,10 +34,16 @@ pub extern "C" fn cembuxola_start(image: &[u8], store: &mut [u16], machine: &mut
     if machine.len() != 24 {
         return 20;
     }
-    let started = loader::start::start(image, store);
-    let first = started.machine;
-    pack(machine, first);
-    started.number
+    match loader::start::start(image, store) {
+        Ok(first) => {
+            pack(machine, first);
+            0
+        }
+        Err(refusal) => {
+            pack(machine, zero_machine());
+            refusal.number()
+        }
+    }
 }
 
 // The number of the refusal, 1 to 7 or 9 to 12, or of the stop, 30 to 40; in answer the count, the code, what is left of the requests and
@@ -66,23 +71,15 @@ pub extern "C" fn cembuxola_run(
     }
     let before = unpack(machine);
     let ran = engine::run::run(before, image, map, store, outputs, inputs, n, requests);
-    let ending = ran.ending;
-    match ending {
-        Ending::Refused(number) => {
+    match ran.ending {
+        Err(refusal) => {
             put_answer(answer, ran.count, 0, ran.requests, ran.channels);
-            number
+            refusal.number()
         }
-        Ending::Stopped(stop) => {
-            let after = ran.machine;
-            pack(machine, after);
-            put_answer(
-                answer,
-                ran.count,
-                mcode::stop_code(stop),
-                ran.requests,
-                ran.channels,
-            );
-            mcode::stop_number(stop)
+        Ok(stop) => {
+            pack(machine, ran.machine);
+            put_answer(answer, ran.count, stop.code(), ran.requests, ran.channels);
+            stop.number()
         }
     }
 }
@@ -101,7 +98,14 @@ pub extern "C" fn cembuxola_archive(
     if written.len() != 1 {
         return 20;
     }
-    let delivered = archive::archive(image, map, out);
-    written[0] = delivered.length as u32;
-    delivered.number
+    match archive::archive(image, map, out) {
+        Ok(length) => {
+            written[0] = length as u32;
+            0
+        }
+        Err(refusal) => {
+            written[0] = 0;
+            refusal.number()
+        }
+    }
 }

@@ -1,24 +1,28 @@
 // A machine as 24 words: module, pc, depth, P, L, S, H, M, then the 16 words of the expression stack, the bottom first.
 ghost use Rattle.std.specs.Prelude.{◌≡◌, List, [], ◌∷◌, ◌≤◌, length, drop};
+ghost use Rattle.mcode.specs.Answer.{verdict_of};
 ghost use Rattle.mcode.specs.Step.{written};
 ghost use Rattle.capi.specs.Words.{module_number, register_words, words_of, machine_from};
+ghost use Rattle.capi.specs.Answers.{place_words};
 
-use mcode::{Address, Machine, Position, Registers};
+use mcode::{Address, Machine, Position, Refusal, Registers};
+
+// The number of load's answer, and its place: the module and the position at fault with 13, else 0 and 0.
+pub fn place_of(answer: Result<(), Refusal>) -> (u16, u16, u16)
+    ensures { result ≡ place_words (verdict_of answer) }
+{
+    match answer {
+        Ok(()) => (0, 0, 0),
+        Err(Refusal::NotWhole(unit, pc)) => (13, unit as u16, pc.0),
+        Err(refusal) => (refusal.number(), 0, 0),
+    }
+}
 
 // A module's number; 255, which no image has, for every word above it.
 fn module_number(word: u16) -> u8
     ensures { result ≡ module_number word }
 {
-    if 255 < word {
-        return 255;
-    }
-    word as u8
-}
-
-fn wide(word: u16) -> usize
-    ensures { result ≡ word }
-{
-    word as usize
+    u8::try_from(word).unwrap_or(255)
 }
 
 fn stack_of(words: &[u16]) -> [u16; 16]
@@ -26,11 +30,7 @@ fn stack_of(words: &[u16]) -> [u16; 16]
     ensures { result ≡ drop 8 words.now }
 {
     let mut stack = [0u16; 16];
-    let mut i = 0usize;
-    while i < 16 {
-        stack[i] = words[8 + i];
-        i += 1;
-    }
+    stack.copy_from_slice(&words[8..]);
     stack
 }
 
@@ -38,15 +38,12 @@ pub fn unpack(words: &[u16]) -> Machine
     requires { length words.now ≡ 24 }
     ensures { result ≡ machine_from words.now }
 {
-    let stack = stack_of(words);
     let unit = module_number(words[0]);
     let pc = Position(words[1]);
-    let depth = wide(words[2]);
-    let p = Address(words[3]);
     let l = Address(words[4]);
     let s = Address(words[5]);
     let h = Address(words[6]);
-    let mask = words[7];
+    let p = Address(words[3]);
     let registers = Registers {
         unit,
         pc,
@@ -54,9 +51,10 @@ pub fn unpack(words: &[u16]) -> Machine
         s,
         h,
         p,
-        mask,
-        depth,
+        mask: words[7],
+        depth: words[2] as usize,
     };
+    let stack = stack_of(words);
     Machine { registers, stack }
 }
 
@@ -74,26 +72,13 @@ fn put_registers(words: &mut [u16], registers: Registers)
     words[7] = registers.mask;
 }
 
-// Also says that the array has its 16 words, for who calls it with a field.
-fn put_stack(words: &mut [u16], stack: [u16; 16])
-    requires { length words.old ≡ 24 }
-    ensures { (words.new ≡ written stack 8 words.old) × (length stack ≡ 16) }
-{
-    let mut i = 0usize;
-    while i < 16 {
-        words[8 + i] = stack[i];
-        i += 1;
-    }
-}
-
 pub fn pack(words: &mut [u16], machine: Machine)
     requires { (length words.old ≡ 24) × (machine.registers.depth ≤ 16) }
     ensures { words.new ≡ words_of machine }
 {
-    let registers = machine.registers;
-    let stack = machine.stack;
+    let Machine { registers, stack } = machine;
     put_registers(words, registers);
-    put_stack(words, stack);
+    words[8..].copy_from_slice(&stack);
 }
 
 // The count, the code, the requests and the channels.
@@ -101,8 +86,5 @@ pub fn put_answer(answer: &mut [u32], count: u32, code: u16, requests: u16, chan
     requires { length answer.old ≡ 4 }
     ensures { answer.new ≡ count ∷ code ∷ requests ∷ channels ∷ [] }
 {
-    answer[0] = count;
-    answer[1] = code as u32;
-    answer[2] = requests as u32;
-    answer[3] = channels as u32;
+    answer.copy_from_slice(&[count, code as u32, requests as u32, channels as u32]);
 }

@@ -1,4 +1,5 @@
 pub mod Lists
+pub mod Found
 pub mod Pieces
 pub mod Answers
 pub mod Same

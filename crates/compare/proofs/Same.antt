@@ -16,7 +16,6 @@ use Rattle.mcode.proofs.Lies.{lies}
 use Rattle.mcode.proofs.FormOf.{length-code, length-name}
 use Rattle.mcode.proofs.Reader.{told}
 use Rattle.compare.specs.declared.Part.TheVariants.{Modules, Size, Procedures, Entry, Parameters, Results, Name, Length, Code}
-use Rattle.compare.specs.declared.Difference.{Difference}
 use Rattle.compare.specs.Facts.{Fact, fact, each, procedure_facts, name_facts, code_facts, module_facts, facts_at, facts_of, facts, first_of, SameModules}
 use Rattle.compare.proofs.Lists.{Alike, alike-nothing, alike-front, alike-rest, alike-first, alike-others, each-alike, tabulate-equal, each-equal}
 use Rattle.compare.proofs.Pieces.{byte-slice}
@@ -188,7 +187,6 @@ same-modules image image' z z' =
     let p = (parse image).program in
     let p' = (parse image').program in
     let read = compared-read image image' z z' in (
-      λ e. contents-equal image image' p p' (told image z) (told image' z')
-          (record { same = ap (λ (d : Difference). d.first) (sym read ∙ e) ∙ ap (λ (d : Difference). d.second) (sym e ∙ read) }),
+      λ e. contents-equal image image' p p' (told image z) (told image' z') (record { none = sym read ∙ e }),
       λ e. read ∙ ap (λ (x : List Fact). first_of (facts image) x) (sym (all-equal image image' p p' (told image z) (told image' z') e)) ∙ alike-nothing (facts image),
     )

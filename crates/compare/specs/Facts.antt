@@ -1,12 +1,12 @@
 -- What the modules of an image tell, fact after fact, and the first fact in which two images differ.
-use Rattle.std.specs.Prelude.{ℕ, ◌≡◌, List, [], ◌∷◌, ◌++◌, eqb}
+use Rattle.std.specs.Prelude.{ℕ, ◌≡◌, List, [], ◌∷◌, ◌++◌, eqb, Option, None, Some}
 use Rattle.mcode.specs.Word.{pick, and, tabulate, byte}
 use Rattle.mcode.specs.Image.{parse, module_of, begin_of, code_byte, proc_count, entry_of, params_of, results_of}
 use Rattle.mcode.specs.Archive.{name_of, contents}
 use Rattle.mcode.specs.declared.Module.{Module}
 use Rattle.mcode.specs.declared.Program.{Program}
 use Rattle.compare.specs.declared.Part.{Part}
-use Rattle.compare.specs.declared.Part.TheVariants.{Nothing, Modules, Size, Procedures, Entry, Parameters, Results, Name, Length, Code}
+use Rattle.compare.specs.declared.Part.TheVariants.{Modules, Size, Procedures, Entry, Parameters, Results, Name, Length, Code}
 use Rattle.compare.specs.declared.Difference.{Difference}
 
 -- a value, in which module it stands, and at which place there
@@ -60,26 +60,23 @@ facts_of image program = fact Modules 0 0 program.count ∷ each program.count (
 abbrev pub facts : List ℕ → List Fact
 facts image = facts_of image (parse image).program
 
-abbrev pub nothing : Difference
-nothing = record { part = Nothing; unit = 0; at = 0; first = 0; second = 0 }
-
 -- a fact of the one image, and what the other has in its place
 abbrev pub difference : Fact → ℕ → Difference
 difference x second = record { part = x.part; unit = x.unit; at = x.at; first = x.value; second = second }
 
 -- the first place where the values differ; as long as they are equal, both lists speak of the same
-abbrev pub first_of : List Fact → List Fact → Difference
-first_of [] ys = nothing
-first_of (x ∷ xs) [] = nothing
-first_of (x ∷ xs) (y ∷ ys) = pick (eqb x.value y.value) (first_of xs ys) (difference x y.value)
+abbrev pub first_of : List Fact → List Fact → Option Difference
+first_of [] ys = None
+first_of (x ∷ xs) [] = None
+first_of (x ∷ xs) (y ∷ ys) = pick (eqb x.value y.value) (first_of xs ys) (Some (difference x y.value))
 
 -- only images that are read are compared
-unfoldable pub first_difference : List ℕ → List ℕ → Difference
+unfoldable pub first_difference : List ℕ → List ℕ → Option Difference
 first_difference image image' =
-    pick (and (eqb (parse image).refusal 0) (eqb (parse image').refusal 0)) (first_of (facts image) (facts image')) nothing
+    pick (and (eqb (parse image).refusal 0) (eqb (parse image').refusal 0)) (first_of (facts image) (facts image')) None
 
 -- Images that are read differ in nothing exactly where their modules are equal.
 unfoldable pub SameModules : Type 0
 SameModules =
     (image image' : List ℕ) → (parse image).refusal ≡ 0 → (parse image').refusal ≡ 0
-    → (first_difference image image' ≡ nothing → contents image ≡ contents image') × (contents image ≡ contents image' → first_difference image image' ≡ nothing)
+    → (first_difference image image' ≡ None → contents image ≡ contents image') × (contents image ≡ contents image' → first_difference image image' ≡ None)

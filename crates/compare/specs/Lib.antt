@@ -1,2 +1,3 @@
 pub mod Facts
 pub mod Compared
+pub mod Pairs

@@ -7,10 +7,11 @@ pub mod values;
 ghost use Rattle.std.specs.Prelude.{◌≡◌};
 ghost use Rattle.compare.specs.Facts.{first_difference};
 
-// What differs first between the modules of two images, if anything.
+use placed::Image;
+
+// What may differ between two images.
 #[derive(Clone, Copy)]
 pub enum Part {
-    Nothing,
     Modules,
     Size,
     Procedures,
@@ -32,23 +33,19 @@ pub struct Difference {
     pub second: usize,
 }
 
-// The first difference between the modules of two images; nothing where one is not read.
-pub fn first_difference(first: &[u8], second: &[u8]) -> Difference
+// The first difference between the modules of two images; None too where one is not read.
+pub fn first_difference(first: &[u8], second: &[u8]) -> Option<Difference>
     ensures { result ≡ first_difference first.now second.now }
 {
-    let one = image::read_image(first);
-    if one.refusal != 0 {
-        return values::nothing();
-    }
-    let other = image::read_image(second);
-    if other.refusal != 0 {
-        return values::nothing();
-    }
-    let p = one.program;
-    let q = other.program;
-    let d = values::value(Part::Modules, 0, 0, p.count, q.count);
-    if d.first != d.second {
-        return d;
-    }
-    modules::modules(first, p, second, q)
+    let p = image::read_image(first).ok()?;
+    let q = image::read_image(second).ok()?;
+    let first = Image {
+        bytes: first,
+        program: &p,
+    };
+    let second = Image {
+        bytes: second,
+        program: &q,
+    };
+    modules::modules(first, second)
 }

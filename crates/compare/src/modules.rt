@@ -1,183 +1,134 @@
-// Two modules of the same number k, part by part, and the modules of two programs.
-ghost use Rattle.std.specs.Prelude.{◌≡◌, ◌≤◌, ◌<◌};
+// Two modules of the same number, part by part, and the modules of two programs.
+ghost use Rattle.std.specs.Prelude.{◌≡◌, ◌<◌, [], ◌∷◌};
 ghost use Rattle.mcode.specs.Word.{byte};
-ghost use Rattle.mcode.specs.Image.{proc_count};
-ghost use Rattle.mcode.specs.Layout.{Sound, Told, Lies};
 ghost use Rattle.mcode.specs.Archive.{name_of};
-ghost use Rattle.compare.specs.Facts.{each, procedure_facts, name_facts, code_facts, module_facts, facts_at};
+ghost use Rattle.compare.specs.Facts.{fact};
 ghost use Rattle.compare.specs.Compared.{Compared};
+ghost use Rattle.compare.specs.Pairs.{InPair, procedure_at, the_procedures, the_name, the_code, the_module, the_facts};
 
-use crate::values::{nothing, value};
+use crate::values::value;
 use crate::{Difference, Part};
 use depths::rules::{byte_at, entry_of, params_of, proc_count, results_of};
-use mcode::{Module, Program};
+use placed::{Image, Placed};
 
-fn procedure(k: usize, i: usize, first: &[u8], m: Module, second: &[u8], o: Module) -> Difference
-    requires { (i < 65536) × (m.table ≤ 65535) × (o.table ≤ 65535) }
-    ensures { Compared (procedure_facts first.now k m i) (procedure_facts second.now k o i) result }
-{
-    let entries = value(
-        Part::Entry,
-        k,
-        i,
-        entry_of(first, m, i),
-        entry_of(second, o, i),
-    );
-    if entries.first != entries.second {
-        return entries;
-    }
-    let params = value(
-        Part::Parameters,
-        k,
-        i,
-        params_of(first, m, i) as usize,
-        params_of(second, o, i) as usize,
-    );
-    if params.first != params.second {
-        return params;
-    }
-    value(
-        Part::Results,
-        k,
-        i,
-        results_of(first, m, i) as usize,
-        results_of(second, o, i) as usize,
-    )
-}
-
-fn procedures(k: usize, first: &[u8], m: Module, second: &[u8], o: Module) -> Difference
-    requires { (proc_count m ≡ proc_count o) × (m.table ≤ 65535) × (o.table ≤ 65535) }
-    ensures { Compared (each (proc_count m) (procedure_facts first.now k m)) (each (proc_count o) (procedure_facts second.now k o)) result }
-{
-    let n = proc_count(m);
-    let mut i: usize = 0;
-    while i < n {
-        let d = procedure(k, i, first, m, second, o);
-        if d.first != d.second {
-            return d;
-        }
-        i += 1;
-    }
-    nothing()
-}
-
-// Byte i of the name, which ends where the code length begins; 0 where the bit map, at `at`, has no bit for it.
-fn name_byte(image: &[u8], at: usize, m: Module, i: usize) -> u8
-    requires { Lies image.now at m × (i < 8) }
-    ensures { result ≡ byte (name_of image.now at m) i }
-{
-    if byte_at(image, at) / 4 % 2 == 0 {
-        return 0;
-    }
-    byte_at(image, m.table - 10 + i)
-}
-
-fn names(
+// Module k of either image.
+#[derive(Clone, Copy)]
+struct Pair<'a> {
     k: usize,
-    first: &[u8],
-    at: usize,
-    m: Module,
-    second: &[u8],
-    to: usize,
-    o: Module,
-) -> Difference
-    requires { Lies first.now at m × Lies second.now to o }
-    ensures { Compared (each 8 (name_facts first.now k at m)) (each 8 (name_facts second.now k to o)) result }
+    first: Placed<'a>,
+    second: Placed<'a>,
+}
+
+// Byte i of the name; 0 where the image has none.
+fn name_byte(p: Placed, i: usize) -> u8
+    requires { i < 8 }
+    ensures { result ≡ byte (name_of p.entry.image.now p.entry.begin p.entry.m) i }
 {
-    let mut i: usize = 0;
-    while i < 8 {
-        let d = value(
-            Part::Name,
-            k,
+    p.name().map_or(0, |name| name[i])
+}
+
+impl Pair<'_> {
+    fn value(self, part: Part, at: usize, first: usize, second: usize) -> Option<Difference>
+        ensures { Compared (fact part self.entry.k at first ∷ []) (fact part self.entry.k at second ∷ []) result }
+    {
+        value(part, self.k, at, first, second)
+    }
+
+    fn procedure(self, i: usize) -> Option<Difference>
+        requires { i < 65536 }
+        ensures { InPair (procedure_at i) self.entry result }
+    {
+        let Pair { first, second, .. } = self;
+        let entries = self.value(
+            Part::Entry,
             i,
-            name_byte(first, at, m, i) as usize,
-            name_byte(second, to, o, i) as usize,
+            entry_of(first.image, first.m, i),
+            entry_of(second.image, second.m, i),
         );
-        if d.first != d.second {
-            return d;
-        }
-        i += 1;
+        let params = self.value(
+            Part::Parameters,
+            i,
+            params_of(first.image, first.m, i) as usize,
+            params_of(second.image, second.m, i) as usize,
+        );
+        let results = self.value(
+            Part::Results,
+            i,
+            results_of(first.image, first.m, i) as usize,
+            results_of(second.image, second.m, i) as usize,
+        );
+        entries.or(params).or(results)
     }
-    nothing()
+
+    // The procedures, behind their count.
+    fn procedures(self) -> Option<Difference>
+        ensures { InPair the_procedures self.entry result }
+    {
+        let n = proc_count(self.first.m);
+        if let Some(d) = self.value(Part::Procedures, 0, n, proc_count(self.second.m)) {
+            return Some(d);
+        }
+        (0..n).find_map(|i| self.procedure(i))
+    }
+
+    fn name(self) -> Option<Difference>
+        ensures { InPair the_name self.entry result }
+    {
+        (0..8).find_map(|i| {
+            let first = name_byte(self.first, i) as usize;
+            let second = name_byte(self.second, i) as usize;
+            self.value(Part::Name, i, first, second)
+        })
+    }
+
+    // The code, behind its length.
+    fn code(self) -> Option<Difference>
+        ensures { InPair the_code self.entry result }
+    {
+        let Pair { first, second, .. } = self;
+        let n = first.m.length as usize;
+        if let Some(d) = self.value(Part::Length, 0, n, second.m.length as usize) {
+            return Some(d);
+        }
+        (0..n).find_map(|p| {
+            let a = byte_at(first.image, first.m.code + p) as usize;
+            let b = byte_at(second.image, second.m.code + p) as usize;
+            self.value(Part::Code, p, a, b)
+        })
+    }
+
+    fn difference(self) -> Option<Difference>
+        ensures { InPair the_module self.entry result }
+    {
+        let a = self.first.m.size as usize;
+        let b = self.second.m.size as usize;
+        if let Some(d) = self.value(Part::Size, 0, a, b) {
+            return Some(d);
+        }
+        if let Some(d) = self.procedures() {
+            return Some(d);
+        }
+        if let Some(d) = self.name() {
+            return Some(d);
+        }
+        self.code()
+    }
 }
 
-fn codes(k: usize, first: &[u8], m: Module, second: &[u8], o: Module) -> Difference
-    requires { (m.length ≡ o.length) × Sound first.now m × Sound second.now o }
-    ensures { Compared (each m.length (code_facts first.now k m)) (each o.length (code_facts second.now k o)) result }
+// The modules of two images, behind their counts.
+pub fn modules(first: Image, second: Image) -> Option<Difference>
+    ensures { Compared (the_facts first.entry) (the_facts second.entry) result }
 {
-    let n = m.length as usize;
-    let mut p: usize = 0;
-    while p < n {
-        let d = value(
-            Part::Code,
+    let (p, q) = (first.program, second.program);
+    if let Some(d) = value(Part::Modules, 0, 0, p.count, q.count) {
+        return Some(d);
+    }
+    (0..p.count).find_map(|k| {
+        let pair = Pair {
             k,
-            p,
-            first[m.code + p] as usize,
-            second[o.code + p] as usize,
-        );
-        if d.first != d.second {
-            return d;
-        }
-        p += 1;
-    }
-    nothing()
-}
-
-// Two modules, whose bit maps are at `at` and `to`.
-fn one_module(
-    k: usize,
-    first: &[u8],
-    at: usize,
-    m: Module,
-    second: &[u8],
-    to: usize,
-    o: Module,
-) -> Difference
-    requires { Lies first.now at m × Lies second.now to o }
-    ensures { Compared (module_facts first.now k at m) (module_facts second.now k to o) result }
-{
-    let sizes = value(Part::Size, k, 0, m.size as usize, o.size as usize);
-    if sizes.first != sizes.second {
-        return sizes;
-    }
-    let counts = value(Part::Procedures, k, 0, proc_count(m), proc_count(o));
-    if counts.first != counts.second {
-        return counts;
-    }
-    let records = procedures(k, first, m, second, o);
-    if records.first != records.second {
-        return records;
-    }
-    let name = names(k, first, at, m, second, to, o);
-    if name.first != name.second {
-        return name;
-    }
-    let lengths = value(Part::Length, k, 0, m.length as usize, o.length as usize);
-    if lengths.first != lengths.second {
-        return lengths;
-    }
-    codes(k, first, m, second, o)
-}
-
-// The modules of two programs that have as many.
-pub fn modules(first: &[u8], p: Program, second: &[u8], q: Program) -> Difference
-    requires { (p.count ≡ q.count) × Told first.now p × Told second.now q }
-    ensures { Compared (each p.count (facts_at first.now p)) (each q.count (facts_at second.now q)) result }
-{
-    let n = p.count;
-    let mut at: usize = 1;
-    let mut to: usize = 1;
-    let mut k: usize = 0;
-    while k < n {
-        let m = p.modules[k];
-        let o = q.modules[k];
-        let d = one_module(k, first, at, m, second, to, o);
-        if d.first != d.second {
-            return d;
-        }
-        at = m.code + m.length as usize;
-        to = o.code + o.length as usize;
-        k += 1;
-    }
-    nothing()
+            first: first.module(k),
+            second: second.module(k),
+        };
+        pair.difference()
+    })
 }

@@ -1,4 +1,2 @@
 pub mod Texts
-pub mod Searches
-pub mod Asking
 pub mod Cases

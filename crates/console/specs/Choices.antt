@@ -1,26 +1,21 @@
 -- What the arguments of a reading ask. Assumes nothing.
-use Rattle.std.specs.Prelude.{ℕ, ◌+◌, ◌^◌, Bool, true, false, List, [], ◌∷◌, eqb, leb, ltb, length, get_or, take, drop, set, replicate}
+use Rattle.std.specs.Prelude.{ℕ, ◌^◌, Bool, false, List, [], ◌∷◌, Option, Some, None, eqb, leb, ltb, length, get_or, set, replicate}
 use Rattle.std.specs.Int.Bits.{bit_or}
+use Rattle.std.specs.List.{find, position_or_len, before_first, after_first}
+use Rattle.std.specs.Str.{bytes_eq}
 use Rattle.mcode.specs.Word.{pick, and, bit}
 use Rattle.console.specs.Decimals.{number_of}
-use Rattle.console.specs.declared.number.Number.{Number}
-use Rattle.console.specs.declared.number.Number.TheVariants.{Is, Bad}
 use Rattle.console.specs.declared.options.Options.{Options}
+use Rattle.console.specs.declared.options.Setting.{Setting}
+use Rattle.console.specs.declared.options.Setting.TheVariants.{Steps as StepsSetting, Store as StoreSetting, Input as InputSetting, Requests as RequestsSetting, Line as LineSetting, After as AfterSetting}
 use Rattle.console.specs.declared.options.Argument.{Argument}
-use Rattle.console.specs.declared.options.Argument.TheVariants.{Help, Steps as StepsNamed, Store as StoreNamed, Input as InputNamed, Requests as RequestsNamed, Line as LineNamed, After as AfterNamed, Unknown, File}
+use Rattle.console.specs.declared.options.Argument.TheVariants.{Help, Named, Unknown, File}
 use Rattle.console.specs.declared.options.Choice.{Choice}
-use Rattle.console.specs.declared.options.Choice.TheVariants.{Steps, Store, Input, Requests, Line, After, Bad as BadChoice}
+use Rattle.console.specs.declared.options.Choice.TheVariants.{Steps, Store, Input, Requests, Line, After}
 
 -- "W = 4,096, inputs 0, outputs first 0, n = 1,000"; of the requests "The desk program gives 0"
 abbrev pub default_options : Options
 default_options = record { steps = 1000; store = 4096; inputs = replicate 16 0; given = 0; requests = 0; after = 0 }
-
--- two texts are the same
-unfoldable pub same_text : List ℕ → List ℕ → Bool
-same_text [] [] = true
-same_text [] (b ∷ t) = false
-same_text (a ∷ s) [] = false
-same_text (a ∷ s) (b ∷ t) = and (eqb a b) (same_text s t)
 
 -- `--help`, `-h`, `--steps`, `--store`, `--input`, `--requests`, `--line`, `--after` in ASCII
 abbrev pub help_text : List ℕ
@@ -47,83 +42,105 @@ line_text = 45 ∷ 45 ∷ 108 ∷ 105 ∷ 110 ∷ 101 ∷ []
 abbrev pub after_text : List ℕ
 after_text = 45 ∷ 45 ∷ 97 ∷ 102 ∷ 116 ∷ 101 ∷ 114 ∷ []
 
--- where the first b stands in a text; its length where there is none
-unfoldable pub place_of : ℕ → List ℕ → ℕ
-place_of b [] = 0
-place_of b (a ∷ rest) = pick (eqb a b) 0 (place_of b rest + 1)
+abbrev pub flag_of : Setting → List ℕ
+flag_of StepsSetting = steps_text
+flag_of StoreSetting = store_text
+flag_of InputSetting = input_text
+flag_of RequestsSetting = requests_text
+flag_of LineSetting = line_text
+flag_of AfterSetting = after_text
 
--- NAME=VALUE, split at the first `=` (61): what stands before it, all of the text where there is none; whether there is one; and what
--- stands after it, nothing where there is none
-unfoldable pub name_of : List ℕ → List ℕ
-name_of text = take (place_of 61 text) text
+abbrev pub all_settings : List Setting
+all_settings = StepsSetting ∷ StoreSetting ∷ InputSetting ∷ RequestsSetting ∷ LineSetting ∷ AfterSetting ∷ []
 
-unfoldable pub has_value : List ℕ → Bool
-has_value text = ltb (place_of 61 text) (length text)
+-- the option that is called so
+unfoldable pub called : List ℕ → Option Setting
+called text = find (λ s. bytes_eq text (flag_of s)) all_settings
 
-unfoldable pub value_of : List ℕ → List ℕ
-value_of text = drop (place_of 61 text + 1) text
+-- `=`
+abbrev pub is_equals : ℕ → Bool
+is_equals c = eqb c 61
+
+-- NAME=VALUE, split at the first `=`: what stands before it, all of the text where there is none; whether there is one; and what stands
+-- after it, nothing where there is none
+abbrev pub name_of : List ℕ → List ℕ
+name_of text = before_first is_equals text
+
+abbrev pub has_value : List ℕ → Bool
+has_value text = ltb (position_or_len is_equals text) (length text)
+
+abbrev pub value_of : List ℕ → List ℕ
+value_of text = after_first is_equals text
 
 -- An option that takes a value may have it in its own argument, `--steps=5`; help takes none. Another text that begins with `-` and has
 -- more than that is no file.
+abbrev pub kind_by : Option Setting → List ℕ → Argument
+kind_by (Some setting) text = Named setting
+kind_by None text = pick (ltb (length text) 2) File (pick (eqb (get_or text 0 0) 45) Unknown File)
+
 unfoldable pub kind_of : List ℕ → Argument
-kind_of text =
-    pick (same_text text help_text) Help
-    (pick (same_text text short_help_text) Help
-    (pick (same_text (name_of text) steps_text) StepsNamed
-    (pick (same_text (name_of text) store_text) StoreNamed
-    (pick (same_text (name_of text) input_text) InputNamed
-    (pick (same_text (name_of text) requests_text) RequestsNamed
-    (pick (same_text (name_of text) line_text) LineNamed
-    (pick (same_text (name_of text) after_text) AfterNamed
-    (pick (ltb (length text) 2) File
-    (pick (eqb (get_or text 0 0) 45) Unknown File)))))))))
+kind_of text = pick (bytes_eq text help_text) Help (pick (bytes_eq text short_help_text) Help (kind_by (called (name_of text)) text))
 
-abbrev pub steps_from : Number → Choice
-steps_from (Is n) = Steps n
-steps_from Bad = BadChoice
+-- a number up to the most
+abbrev pub up_to : ℕ → Option ℕ → Option ℕ
+up_to most (Some n) = pick (leb n most) (Some n) None
+up_to most None = None
 
-unfoldable pub steps_of : List ℕ → Choice
+abbrev pub steps_from : Option ℕ → Option Choice
+steps_from (Some n) = Some (Steps n)
+steps_from None = None
+
+abbrev pub steps_of : List ℕ → Option Choice
 steps_of text = steps_from (number_of text)
 
-abbrev pub store_from : Number → Choice
-store_from (Is n) = pick (leb n 65536) (Store n) BadChoice
-store_from Bad = BadChoice
+abbrev pub store_from : Option ℕ → Option Choice
+store_from (Some n) = pick (leb n 65536) (Some (Store n)) None
+store_from None = None
 
-unfoldable pub store_of : List ℕ → Choice
+abbrev pub store_of : List ℕ → Option Choice
 store_of text = store_from (number_of text)
 
-abbrev pub wired : Number → Number → Choice
-wired (Is c) (Is v) = pick (and (leb c 15) (leb v 65535)) (Input c v) BadChoice
-wired (Is c) Bad = BadChoice
-wired Bad v = BadChoice
+abbrev pub wired : Option ℕ → Option ℕ → Option Choice
+wired (Some c) (Some v) = pick (and (leb c 15) (leb v 65535)) (Some (Input c v)) None
+wired (Some c) None = None
+wired None v = None
 
-unfoldable pub input_from : List ℕ → List ℕ → Choice
+abbrev pub input_from : List ℕ → List ℕ → Option Choice
 input_from channel value = wired (number_of channel) (number_of value)
 
 -- CH=VALUE
-unfoldable pub input_of : List ℕ → Choice
-input_of text = pick (has_value text) (input_from (name_of text) (value_of text)) BadChoice
+abbrev pub input_of : List ℕ → Option Choice
+input_of text = pick (has_value text) (input_from (name_of text) (value_of text)) None
 
-abbrev pub requests_from : Number → Choice
-requests_from (Is n) = pick (leb n 65535) (Requests n) BadChoice
-requests_from Bad = BadChoice
+abbrev pub requests_from : Option ℕ → Option Choice
+requests_from (Some n) = pick (leb n 65535) (Some (Requests n)) None
+requests_from None = None
 
-unfoldable pub requests_of : List ℕ → Choice
+abbrev pub requests_of : List ℕ → Option Choice
 requests_of text = requests_from (number_of text)
 
-abbrev pub line_from : Number → Choice
-line_from (Is n) = pick (and (leb 8 n) (leb n 15)) (Line n) BadChoice
-line_from Bad = BadChoice
+abbrev pub line_from : Option ℕ → Option Choice
+line_from (Some n) = pick (and (leb 8 n) (leb n 15)) (Some (Line n)) None
+line_from None = None
 
-unfoldable pub line_choice : List ℕ → Choice
+abbrev pub line_choice : List ℕ → Option Choice
 line_choice text = line_from (number_of text)
 
-abbrev pub after_from : Number → Choice
-after_from (Is n) = After n
-after_from Bad = BadChoice
+abbrev pub after_from : Option ℕ → Option Choice
+after_from (Some n) = Some (After n)
+after_from None = None
 
-unfoldable pub after_of : List ℕ → Choice
+abbrev pub after_of : List ℕ → Option Choice
 after_of text = after_from (number_of text)
+
+-- what the value of an option says
+abbrev pub choice_of : Setting → List ℕ → Option Choice
+choice_of StepsSetting text = steps_of text
+choice_of StoreSetting text = store_of text
+choice_of InputSetting text = input_of text
+choice_of RequestsSetting text = requests_of text
+choice_of LineSetting text = line_choice text
+choice_of AfterSetting text = after_of text
 
 -- line i stands in bit i of the word of requests, input channel i in bit i of the word of those given: a word has 16
 abbrev pub bit_weight : ℕ → ℕ
@@ -144,8 +161,7 @@ with_choice o (Input c v) = record { steps = o.steps; store = o.store; inputs = 
 with_choice o (Requests w) = with_requests o w
 with_choice o (Line i) = with_requests o (bit_weight i)
 with_choice o (After n) = record { steps = o.steps; store = o.store; inputs = o.inputs; given = o.given; requests = o.requests; after = n }
-with_choice o BadChoice = o
 
 -- the requests come after so many steps: all of them where there are none
-unfoldable pub quiet_steps : Options → ℕ
+abbrev pub quiet_steps : Options → ℕ
 quiet_steps o = pick (eqb o.requests 0) o.steps (pick (ltb o.steps o.after) o.steps o.after)

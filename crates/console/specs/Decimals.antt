@@ -1,8 +1,6 @@
 -- What a text says as a decimal number. Assumes nothing.
-use Rattle.std.specs.Prelude.{ℕ, ◌+◌, ◌-◌, ◌*◌, Bool, true, List, [], ◌∷◌, eqb, leb, length}
+use Rattle.std.specs.Prelude.{ℕ, ◌+◌, ◌-◌, ◌*◌, Bool, true, List, [], ◌∷◌, Option, Some, None, eqb, leb, length}
 use Rattle.mcode.specs.Word.{pick, and}
-use Rattle.console.specs.declared.number.Number.{Number}
-use Rattle.console.specs.declared.number.Number.TheVariants.{Is, Bad}
 
 -- the characters 0 to 9 are 48 to 57
 abbrev pub is_digit : ℕ → Bool
@@ -21,9 +19,9 @@ abbrev pub largest : ℕ
 largest = 4294967295
 
 -- digits that follow those of value v, as one number
-unfoldable pub number_from : ℕ → List ℕ → Number
-number_from v text = pick (and (all_digits text) (leb (value_from v text) largest)) (Is (value_from v text)) Bad
+unfoldable pub number_from : ℕ → List ℕ → Option ℕ
+number_from v text = pick (and (all_digits text) (leb (value_from v text) largest)) (Some (value_from v text)) None
 
 -- a text of one digit or more, all of them digits, of a value up to the largest
-unfoldable pub number_of : List ℕ → Number
-number_of text = pick (eqb (length text) 0) Bad (number_from 0 text)
+unfoldable pub number_of : List ℕ → Option ℕ
+number_of text = pick (eqb (length text) 0) None (number_from 0 text)

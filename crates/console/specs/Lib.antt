@@ -1,6 +1,6 @@
 pub mod Decimals
 pub mod Choices
-pub mod Counted
 pub mod Faults
 pub mod Asks
 pub mod Caught
+pub mod Words

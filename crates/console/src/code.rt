@@ -1,130 +1,89 @@
 // Where the code of an image is at fault, in words.
-use crate::print::number;
-use crate::words::put_letters;
-use explain::Why;
-use listing::causes::{words_length, words_of};
+use explain::{Why, Wrong};
+use listing::causes::words_of;
 use listing::cell::cell_of;
-use listing::names::{name_length, name_of, octal_of};
-use listing::streams::write_all;
+use listing::names::name_of;
 use marks::{depth_of, front_of, promised_of, saves_of};
-use mcode::Cause;
-use mcode::opcode::{left_of, length_of, taken_of};
+use mcode::opcode::{left_of, taken_of};
+use std::fmt;
 
-// An opcode in octal, and its name where it is listed.
-fn put_opcode(to: &impl Print, op: u8) {
-    let digits = octal_of(op);
-    write_all(to, &digits);
-    if 1 <= length_of(op) {
-        let letters = name_of(op);
-        let n = name_length(letters);
-        write_all(to, b" ");
-        put_letters(to, &letters, n);
-    }
-}
-
-fn put_position(to: &impl Print, k: u8, p: u16, op: u8) {
-    number(to, b" (module ", k as u64);
-    number(to, b", position ", p as u64);
-    write_all(to, b": ");
-    put_opcode(to, op);
-}
-
-fn put_cause(to: &impl Print, cause: Cause) {
-    let letters = words_of(cause);
-    write_all(to, b", ");
-    put_letters(to, &letters, words_length(cause));
-}
-
-// A mark, as a listing shows it.
-fn put_mark(to: &impl Print, label: &[u8], mark: u32) {
-    let cell = cell_of(mark);
-    let letters = cell.letters;
-    write_all(to, label);
-    put_letters(to, &letters, cell.count);
-}
+// ` (module K, position P: OPCODE NAME, what is wrong)`, the marks as a listing shows them.
+#[derive(Clone, Copy)]
+pub struct Fault(pub Why);
 
 // RTN with other results than the promised ones, or with a depth saved.
-fn put_return(to: &impl Print, mark: u32) {
+fn write_return<W: fmt::Write>(f: &mut fmt::Formatter<W>, mark: u32) -> fmt::Result {
     let depth = depth_of(mark);
     let results = promised_of(mark);
     if depth == results {
-        put_mark(to, b", at depth ", mark);
-        write_all(to, b", a depth saved");
-        return;
+        write!(f, ", at depth {}, a depth saved", cell_of(mark))
+    } else {
+        write!(f, ", at depth {depth}, results {results}")
     }
-    number(to, b", at depth ", depth as u64);
-    number(to, b", results ", results as u64);
 }
 
 // LODFW with more or fewer words than its one, with no depth saved, or with 16 words, beside which its own has no room.
-fn put_fetch(to: &impl Print, mark: u32) {
-    put_mark(to, b", at depth ", mark);
+fn write_fetch<W: fmt::Write>(f: &mut fmt::Formatter<W>, mark: u32) -> fmt::Result {
+    write!(f, ", at depth {}", cell_of(mark))?;
     if depth_of(mark) != 1 {
-        write_all(to, b", needs 1");
+        write!(f, ", needs 1")
     } else if saves_of(mark) == 0 {
-        write_all(to, b", no depth saved");
+        write!(f, ", no depth saved")
     } else {
-        number(to, b", saves ", front_of(mark) as u64);
+        write!(f, ", saves {}", front_of(mark))
     }
 }
 
 // An instruction that takes more than there is, or leaves more than 16.
-fn put_words(to: &impl Print, op: u8, mark: u32) {
-    let depth = depth_of(mark) as u64;
+fn write_words<W: fmt::Write>(f: &mut fmt::Formatter<W>, op: u8, mark: u32) -> fmt::Result {
+    let depth = u64::from(depth_of(mark));
     let taken = taken_of(op) as u64;
-    number(to, b", at depth ", depth);
     if depth < taken {
-        number(to, b", takes ", taken);
+        write!(f, ", at depth {depth}, takes {taken}")
     } else {
-        number(to, b", leaves ", depth - taken + left_of(op) as u64);
+        let left = depth - taken + left_of(op) as u64;
+        write!(f, ", at depth {depth}, leaves {left}")
     }
 }
 
 // What the instruction op would do at a mark that the rules do not allow it.
-fn put_rule(to: &impl Print, op: u8, mark: u32) {
+fn write_rule<W: fmt::Write>(f: &mut fmt::Formatter<W>, op: u8, mark: u32) -> fmt::Result {
     match op {
-        0o354 => put_return(to, mark),
-        0o260 => put_fetch(to, mark),
-        0o262 => {
-            put_mark(to, b", at depth ", mark);
-            write_all(to, b", four depths saved");
-        }
-        _ => put_words(to, op, mark),
+        0o354 => write_return(f, mark),
+        0o260 => write_fetch(f, mark),
+        0o262 => write!(f, ", at depth {}, four depths saved", cell_of(mark)),
+        _ => write_words(f, op, mark),
     }
 }
 
 // A call at a depth: CI has its link on top of the parameters.
-fn put_call(to: &impl Print, op: u8, mark: u32, params: u8) {
-    number(to, b", at depth ", depth_of(mark) as u64);
-    if op == 0o356 {
-        write_all(to, b" with the link");
-    }
-    number(to, b", parameters ", params as u64);
+fn write_call<W: fmt::Write>(
+    f: &mut fmt::Formatter<W>,
+    op: u8,
+    mark: u32,
+    params: u8,
+) -> fmt::Result {
+    let link = if op == 0o356 { " with the link" } else { "" };
+    let depth = depth_of(mark);
+    write!(f, ", at depth {depth}{link}, parameters {params}")
 }
 
-// ` (module K, position P: OPCODE NAME, what is wrong)`.
-pub fn put_why(to: &impl Print, why: Why) {
-    match why {
-        Why::Unknown => {
-            return;
+impl fmt::Display for Fault {
+    fn fmt<W: fmt::Write>(&self, f: &mut fmt::Formatter<W>) -> fmt::Result {
+        let why = self.0;
+        let op = why.op;
+        write!(f, " (module {}, position {}: {op:03o}", why.unit, why.pc.0)?;
+        if let Some(name) = name_of(op) {
+            write!(f, " {name}")?;
         }
-        Why::Fault(k, p, op, cause) => {
-            put_position(to, k, p, op);
-            put_cause(to, cause);
+        match why.wrong {
+            Wrong::Fault(cause) => write!(f, ", {}", words_of(cause))?,
+            Wrong::Meet(x, y) => {
+                write!(f, ", reached with depths {} and {}", cell_of(x), cell_of(y))?
+            }
+            Wrong::Rule(mark) => write_rule(f, op, mark)?,
+            Wrong::Call(mark, params) => write_call(f, op, mark, params)?,
         }
-        Why::Meet(k, p, op, x, y) => {
-            put_position(to, k, p, op);
-            put_mark(to, b", reached with depths ", x);
-            put_mark(to, b" and ", y);
-        }
-        Why::Rule(k, p, op, x) => {
-            put_position(to, k, p, op);
-            put_rule(to, op, x);
-        }
-        Why::Call(k, p, op, x, n) => {
-            put_position(to, k, p, op);
-            put_call(to, op, x, n);
-        }
+        write!(f, ")")
     }
-    write_all(to, b")");
 }

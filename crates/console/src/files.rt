@@ -1,59 +1,40 @@
 // Files to read from, and standard input.
-ghost use Rattle.std.specs.Prelude.{length, IfOk};
-ghost use Rattle.console.specs.Counted.{Within};
-ghost use Rattle.console.specs.declared.files.Filled.TheVariants.{Bytes};
+ghost use Rattle.std.specs.Prelude.{◌≤◌, length, IfOk, IfSome};
 
-use crate::options::same;
-use crate::print;
-use listing::streams::Streams;
+use crate::print::Teller;
 use std::io::Read;
 use std::rt::Files;
 use std::{fs, io, str};
 
-// How many bytes were read, or that a read failed.
-#[derive(Clone, Copy)]
-pub enum Filled {
-    Bytes(usize),
-    Failed,
-}
-
-// One read.
-fn some(from: &mut impl Read, part: &mut [u8]) -> io::Result<usize>
-    ensures { IfOk result (λ n. Within (Bytes n) (length part.old)) }
-{
-    from.read(part)
-}
-
-// Reads until the buffer is full or the input ends.
+// Reads until the buffer is full or the input ends. Each read says how far it came, so no range counts them.
 pub fn fill(from: &mut impl Read, buffer: &mut [u8]) -> io::Result<usize>
-    ensures { IfOk result (λ n. Within (Bytes n) (length buffer.old)) }
+    ensures { IfOk result (λ n. n ≤ length buffer.old) }
 {
     let mut done: usize = 0;
     while done < buffer.len() {
-        let more = some(from, &mut buffer[done..])?;
+        let more = from.read(&mut buffer[done..])?;
         if more == 0 {
-            return Ok(done);
+            break;
         }
         done += more;
     }
     Ok(done)
 }
 
-// Reads into the buffer. Where a read fails, a line on standard error says why, of what the caller names it.
-pub fn read_from(
-    streams: Streams,
-    program: &[u8],
+// What is read into the buffer. Where a read fails, a line on standard error says why, of what the caller names it.
+pub fn read_from<'a>(
+    teller: Teller,
     name: &[u8],
     from: &mut impl Read,
-    buffer: &mut [u8],
-) -> Filled
-    ensures { Within result (length buffer.old) }
+    buffer: &'a mut [u8],
+) -> Option<&'a mut [u8]>
+    ensures { IfSome result (λ part. length part.now ≤ length buffer.old) }
 {
     match fill(from, buffer) {
-        Ok(n) => Filled::Bytes(n),
+        Ok(n) => Some(&mut buffer[..n]),
         Err(error) => {
-            print::unreadable(streams, program, name, error);
-            Filled::Failed
+            teller.unreadable(name, error);
+            None
         }
     }
 }
@@ -66,30 +47,26 @@ fn open<R: Files>(rt: &R, name: &[u8]) -> io::Result<R::File> {
     }
 }
 
-// Reads the file into the buffer. Where it cannot be read, a line on standard error says why. `-` is standard input, which stays
+// What the file has, read into the buffer. Where it cannot be read, a line on standard error says why. `-` is standard input, which stays
 // open. A file that was opened is closed, also where its descriptor is 0, as it is where standard input was closed: a later `-` then
 // finds no file there.
-pub fn contents(
+pub fn contents<'a>(
     rt: &impl Files,
-    streams: Streams,
-    program: &[u8],
+    teller: Teller,
     name: &[u8],
-    buffer: &mut [u8],
-) -> Filled
-    ensures { Within result (length buffer.old) }
+    buffer: &'a mut [u8],
+) -> Option<&'a mut [u8]>
+    ensures { IfSome result (λ part. length part.now ≤ length buffer.old) }
 {
-    if same(name, b"-") {
-        let mut input = streams.input;
-        return read_from(streams, program, name, &mut input, buffer);
+    if name == b"-".as_slice() {
+        let mut input = teller.streams.input;
+        return read_from(teller, name, &mut input, buffer);
     }
     match open(rt, name) {
-        Ok(file) => {
-            let mut opened = file;
-            read_from(streams, program, name, &mut opened, buffer)
-        }
+        Ok(mut file) => read_from(teller, name, &mut file, buffer),
         Err(error) => {
-            print::unreadable(streams, program, name, error);
-            Filled::Failed
+            teller.unreadable(name, error);
+            None
         }
     }
 }

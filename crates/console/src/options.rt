@@ -1,9 +1,10 @@
 // What the arguments ask: the budget, the store's size, the inputs and the requests of a reading.
-ghost use Rattle.std.specs.Prelude.{◌≡◌, length, set, ◌≤◌};
-ghost use Rattle.console.specs.Choices.{default_options, same_text, kind_of, steps_of, store_of, place_of, name_of, has_value, value_of, input_from, input_of, requests_of, line_choice, after_of, bit_weight, with_requests, with_choice, quiet_steps};
+ghost use Rattle.std.specs.Prelude.{◌≡◌, ◌≤◌, set, MatchOption, false, true};
+ghost use Rattle.console.specs.Decimals.{number_of};
+ghost use Rattle.console.specs.Choices.{default_options, flag_of, called, kind_of, name_of, has_value, value_of, up_to, input_of, choice_of, bit_weight, with_requests, with_choice, quiet_steps};
 
-use crate::number::{Number, decimal};
-use mcode::{Ending, Stop};
+use crate::number::decimal;
+use mcode::{Refusal, Stop};
 
 // `given` has bit i where input channel i was given; the others are left at 0.
 #[derive(Clone, Copy)]
@@ -17,126 +18,77 @@ pub struct Options {
 }
 
 // The reading of the paper: n = 1,000, W = 4,096, inputs 0, none of them given, no requests; those that there are come at once.
-pub fn defaults() -> Options
-    ensures { result ≡ default_options }
-{
-    let inputs = [0u16; 16];
-    Options {
-        steps: 1000,
-        store: 4096,
-        inputs,
-        given: 0,
-        requests: 0,
-        after: 0,
+impl Default for Options {
+    ghost is_default = { λ o. o ≡ default_options };
+
+    fn default() -> Options {
+        Options {
+            steps: 1000,
+            store: 4096,
+            inputs: [0; 16],
+            given: 0,
+            requests: 0,
+            after: 0,
+        }
     }
 }
 
-// What one argument is: the name of an option, with its value or without it, an option that there is not, or a file.
-#[derive(Clone, Copy)]
-pub enum Argument {
-    Help,
+// What an option sets that takes a value.
+#[derive(Clone, Copy, PartialEq, Eq)]
+pub enum Setting {
     Steps,
     Store,
     Input,
     Requests,
     Line,
     After,
+}
+
+// What one argument is: the name of an option, with its value or without it, an option that there is not, or a file.
+#[derive(Clone, Copy, PartialEq, Eq)]
+pub enum Argument {
+    Help,
+    Named(Setting),
     Unknown,
     File,
-}
-
-// Whether two texts are the same.
-pub fn same(a: &[u8], b: &[u8]) -> bool
-    ensures { result ≡ same_text a.now b.now }
-{
-    a == b
-}
-
-// Where the first `=` stands, or the text's length.
-fn equals(text: &[u8]) -> usize
-    ensures { (result ≡ place_of 61 text.now) × (result ≤ length text.now) }
-{
-    let mut i: usize = 0;
-    while i < text.len() {
-        if text[i] == 61 {
-            return i;
-        }
-        i += 1;
-    }
-    i
 }
 
 // An argument NAME=VALUE is split at its first `=`. The name is all of it where there is none.
 pub fn name(text: &[u8]) -> &[u8]
     ensures { result.now ≡ name_of text.now }
 {
-    let at = equals(text);
-    &text[..at]
+    match text.iter().position(|b| *b == b'=') {
+        Some(at) => &text[..at],
+        None => text,
+    }
 }
 
-// Whether there is a value.
-pub fn has_value(text: &[u8]) -> bool
-    ensures { result ≡ has_value text.now }
+// The value, where there is one.
+pub fn value(text: &[u8]) -> Option<&[u8]>
+    ensures { MatchOption result
+        (has_value text.now ≡ false)
+        (λ v. (has_value text.now ≡ true) × (v.now ≡ value_of text.now)) }
 {
-    let at = equals(text);
-    if at < text.len() {
-        return true;
-    }
-    false
-}
-
-// The value; nothing where there is none.
-pub fn value(text: &[u8]) -> &[u8]
-    ensures { result.now ≡ value_of text.now }
-{
-    let at = equals(text);
-    if at < text.len() {
-        let next = at + 1;
-        return &text[next..];
-    }
-    &text[at..]
+    let at = text.iter().position(|b| *b == b'=')?;
+    Some(&text[at + 1..])
 }
 
 // `-` alone is a file: standard input.
 pub fn kind(text: &[u8]) -> Argument
     ensures { result ≡ kind_of text.now }
 {
-    if same(text, b"--help") {
+    if text == b"--help".as_slice() || text == b"-h".as_slice() {
         return Argument::Help;
     }
-    if same(text, b"-h") {
-        return Argument::Help;
+    match Setting::called(name(text)) {
+        Some(setting) => Argument::Named(setting),
+        None if 2 <= text.len() && text[0] == b'-' => Argument::Unknown,
+        None => Argument::File,
     }
-    let option = name(text);
-    if same(option, b"--steps") {
-        return Argument::Steps;
-    }
-    if same(option, b"--store") {
-        return Argument::Store;
-    }
-    if same(option, b"--input") {
-        return Argument::Input;
-    }
-    if same(option, b"--requests") {
-        return Argument::Requests;
-    }
-    if same(option, b"--line") {
-        return Argument::Line;
-    }
-    if same(option, b"--after") {
-        return Argument::After;
-    }
-    if text.len() < 2 {
-        return Argument::File;
-    }
-    if text[0] == 45 {
-        return Argument::Unknown;
-    }
-    Argument::File
 }
 
-// What the value of an option asks, or that it is bad.
-#[derive(Clone, Copy)]
+// What the value of an option asks.
+#[derive(Clone, Copy, PartialEq, Eq)]
 pub enum Choice {
     Steps(u32),
     Store(usize),
@@ -144,105 +96,99 @@ pub enum Choice {
     Requests(u16),
     Line(u8),
     After(u32),
-    Bad,
 }
 
-// --steps N, 0 to 4,294,967,295.
-pub fn steps(text: &[u8]) -> Choice
-    ensures { result ≡ steps_of text.now }
+// A number up to the most.
+fn up_to(text: &[u8], most: u32) -> Option<u32>
+    ensures { result ≡ up_to most (number_of text.now) }
 {
-    match decimal(text) {
-        Number::Is(n) => Choice::Steps(n),
-        Number::Bad => Choice::Bad,
-    }
+    decimal(text).filter(|n| *n <= most)
 }
 
-// --store W, 0 to 65,536.
-pub fn store(text: &[u8]) -> Choice
-    ensures { result ≡ store_of text.now }
-{
-    match decimal(text) {
-        Number::Is(n) => {
-            if n <= 65536 {
-                return Choice::Store(n as usize);
-            }
-            Choice::Bad
-        }
-        Number::Bad => Choice::Bad,
-    }
-}
-
-// A channel, 0 to 15, and a value, 0 to 65,535.
-fn pair(channel: &[u8], value: &[u8]) -> Choice
-    ensures { result ≡ input_from channel.now value.now }
-{
-    match decimal(channel) {
-        Number::Is(c) => match decimal(value) {
-            Number::Is(v) => {
-                if 15 < c {
-                    return Choice::Bad;
-                }
-                if 65535 < v {
-                    return Choice::Bad;
-                }
-                Choice::Input(c as u8, v as u16)
-            }
-            Number::Bad => Choice::Bad,
-        },
-        Number::Bad => Choice::Bad,
-    }
-}
-
-// --input CH=VALUE.
-pub fn input(text: &[u8]) -> Choice
+// CH=VALUE: a channel, 0 to 15, and a value, 0 to 65,535.
+fn input(text: &[u8]) -> Option<Choice>
     ensures { result ≡ input_of text.now }
 {
-    if has_value(text) {
-        return pair(name(text), value(text));
-    }
-    Choice::Bad
+    let v = value(text)?;
+    let channel = up_to(name(text), 15)?;
+    Some(Choice::Input(channel as u8, up_to(v, 65535)? as u16))
 }
 
-// --requests WORD, 0 to 65,535.
-pub fn requests(text: &[u8]) -> Choice
-    ensures { result ≡ requests_of text.now }
-{
-    match decimal(text) {
-        Number::Is(n) => {
-            if n <= 65535 {
-                return Choice::Requests(n as u16);
-            }
-            Choice::Bad
+impl Setting {
+    const ALL: [Setting; 6] = [
+        Setting::Steps,
+        Setting::Store,
+        Setting::Input,
+        Setting::Requests,
+        Setting::Line,
+        Setting::After,
+    ];
+
+    // How the option is written.
+    pub(crate) fn flag(self) -> &'static [u8]
+        ensures { result.now ≡ flag_of self }
+    {
+        match self {
+            Setting::Steps => b"--steps",
+            Setting::Store => b"--store",
+            Setting::Input => b"--input",
+            Setting::Requests => b"--requests",
+            Setting::Line => b"--line",
+            Setting::After => b"--after",
         }
-        Number::Bad => Choice::Bad,
     }
-}
 
-// --line I, 8 to 15.
-pub fn line(text: &[u8]) -> Choice
-    ensures { result ≡ line_choice text.now }
-{
-    match decimal(text) {
-        Number::Is(n) => {
-            if n < 8 {
-                return Choice::Bad;
+    // The option that is written so.
+    pub(crate) fn called(text: &[u8]) -> Option<Setting>
+        ensures { result ≡ called text.now }
+    {
+        Setting::ALL
+            .iter()
+            .copied()
+            .find(|setting| text == setting.flag())
+    }
+
+    // What its value asks; none where the value is bad.
+    pub fn choice(self, text: &[u8]) -> Option<Choice>
+        ensures { result ≡ choice_of self text.now }
+    {
+        match self {
+            Setting::Steps => Some(Choice::Steps(decimal(text)?)),
+            Setting::Store => Some(Choice::Store(up_to(text, 65536)? as usize)),
+            Setting::Input => input(text),
+            Setting::Requests => Some(Choice::Requests(up_to(text, 65535)? as u16)),
+            Setting::Line => {
+                let line = up_to(text, 15)? as u8;
+                (8 <= line).then_some(Choice::Line(line))
             }
-            if 15 < n {
-                return Choice::Bad;
-            }
-            Choice::Line(n as u8)
+            Setting::After => Some(Choice::After(decimal(text)?)),
         }
-        Number::Bad => Choice::Bad,
     }
-}
 
-// --after N, 0 to 4,294,967,295.
-pub fn after(text: &[u8]) -> Choice
-    ensures { result ≡ after_of text.now }
-{
-    match decimal(text) {
-        Number::Is(n) => Choice::After(n),
-        Number::Bad => Choice::Bad,
+    // What its value may be, where it is bad.
+    pub(crate) fn allowed(self) -> &'static str {
+        match self {
+            Setting::Steps => "--steps takes a number from 0 to 4294967295",
+            Setting::Store => "--store takes a number from 0 to 65536",
+            Setting::Input => {
+                "--input takes CH=VALUE, a channel from 0 to 15 and a value from 0 to 65535"
+            }
+            Setting::Requests => "--requests takes a number from 0 to 65535",
+            Setting::Line => "--line takes a line from 8 to 15",
+            Setting::After => "--after takes a number from 0 to 4294967295",
+        }
+    }
+
+    // The same, where it is missing.
+    pub(crate) fn missing(self) -> &'static str {
+        match self {
+            Setting::Steps => "a number from 0 to 4294967295 must follow",
+            Setting::Store => "a number from 0 to 65536 must follow",
+            Setting::Input => "CH=VALUE must follow (channel 0 to 15, value 0 to 65535)",
+            Setting::Requests => "a number from 0 to 65535 must follow",
+            Setting::Line => "a line from 8 to 15 must follow",
+            Setting::After => "a number from 0 to 4294967295 must follow",
+        }
     }
 }
 
@@ -254,7 +200,6 @@ pub fn with_input(from: [u16; 16], channel: u8, value: u16) -> [u16; 16]
     let c = channel as usize;
     if c < 16 {
         inputs[c] = value;
-        return inputs;
     }
     inputs
 }
@@ -266,96 +211,48 @@ fn weight(i: u8) -> u16
     if i < 16 { 1 << (i as u16) } else { 0 }
 }
 
-// The options with the bits of a word more in the requests.
-fn with_requests(options: Options, word: u16) -> Options
-    ensures { result ≡ with_requests options word }
-{
-    let inputs = options.inputs;
-    Options {
-        steps: options.steps,
-        store: options.store,
-        inputs,
-        given: options.given,
-        requests: options.requests | word,
-        after: options.after,
-    }
-}
-
-// The options with one choice made anew, or with more requests; a bad one changes nothing.
-pub fn with_choice(options: Options, choice: Choice) -> Options
-    ensures { result ≡ with_choice options choice }
-{
-    let inputs = options.inputs;
-    match choice {
-        Choice::Steps(n) => Options {
-            steps: n,
-            store: options.store,
-            inputs,
-            given: options.given,
-            requests: options.requests,
-            after: options.after,
-        },
-        Choice::Store(w) => Options {
-            steps: options.steps,
-            store: w,
-            inputs,
-            given: options.given,
-            requests: options.requests,
-            after: options.after,
-        },
-        Choice::Input(channel, value) => {
-            let changed = with_input(inputs, channel, value);
-            Options {
-                steps: options.steps,
-                store: options.store,
-                inputs: changed,
-                given: options.given | weight(channel),
-                requests: options.requests,
-                after: options.after,
-            }
+impl Options {
+    // The bits of a word more in the requests.
+    fn with_requests(self, word: u16) -> Options
+        ensures { result ≡ with_requests self word }
+    {
+        Options {
+            requests: self.requests | word,
+            ..self
         }
-        Choice::Requests(word) => with_requests(options, word),
-        Choice::Line(i) => with_requests(options, weight(i)),
-        Choice::After(n) => Options {
-            steps: options.steps,
-            store: options.store,
-            inputs,
-            given: options.given,
-            requests: options.requests,
-            after: n,
-        },
-        Choice::Bad => options,
     }
-}
 
-// How many steps come before the requests: all of them where there are none.
-pub fn quiet_steps(options: Options) -> u32
-    ensures { (result ≡ quiet_steps options) × (result ≤ options.steps) }
-{
-    if options.requests == 0 {
-        return options.steps;
+    // One choice made anew, or more requests.
+    pub fn with_choice(self, choice: Choice) -> Options
+        ensures { result ≡ with_choice self choice }
+    {
+        match choice {
+            Choice::Steps(steps) => Options { steps, ..self },
+            Choice::Store(store) => Options { store, ..self },
+            Choice::Input(channel, value) => Options {
+                inputs: with_input(self.inputs, channel, value),
+                given: self.given | weight(channel),
+                ..self
+            },
+            Choice::Requests(word) => self.with_requests(word),
+            Choice::Line(i) => self.with_requests(weight(i)),
+            Choice::After(after) => Options { after, ..self },
+        }
     }
-    if options.steps < options.after {
-        return options.steps;
-    }
-    options.after
-}
 
-// Whether all steps of the budget were done.
-pub fn is_spent(ending: Ending) -> bool {
-    match ending {
-        Ending::Refused(_) => false,
-        Ending::Stopped(stop) => match stop {
-            Stop::Spent => true,
-            _ => false,
-        },
+    // How many steps come before the requests: all of them where there are none.
+    pub fn quiet_steps(self) -> u32
+        ensures { (result ≡ quiet_steps self) × (result ≤ self.steps) }
+    {
+        if self.requests == 0 {
+            self.steps
+        } else {
+            self.steps.min(self.after)
+        }
     }
-}
 
-// Whether the requests come, where the steps before them ended so: more steps are left for them.
-pub fn comes_to_requests(options: Options, ending: Ending) -> bool {
-    if quiet_steps(options) < options.steps {
-        return is_spent(ending);
+    // Whether the requests come, where the steps before them ended so: more steps are left for them.
+    pub fn comes_to_requests(self, ending: Result<Stop, Refusal>) -> bool {
+        self.quiet_steps() < self.steps && ending == Ok(Stop::Spent)
     }
-    false
 }

@@ -1,25 +1,29 @@
--- Laws of the chain of frames: one word on, a word outside the store, the end. Assumes nothing.
+-- Laws of the chain of frames, of whose n words i are followed: one word on, a word outside the store, the end. Assumes nothing.
+use Rattle.std.specs.Prelude.{Ok, Err}
 use mathlib.Core.Path.{◌≡◌, refl}
 use mathlib.Core.List.{List}
-use Prim.Native.Nat.{ℕ, zero, suc, ◌-◌, ◌<◌, ◌≤◌}
+use Prim.Native.Nat.{ℕ, zero, suc, ◌+◌, ◌-◌, ◌<◌, ◌≤◌}
 use native.Mathlib.Omega.{arith}
-use borrow.Author.Tests.{lt-ltb, le-ltb}
-use lib.ListN.{length, get_or}
-use Rattle.mcode.specs.declared.Value.TheVariants.{Is, Fault}
-use Rattle.mcode.specs.declared.Stop.TheVariants.{BadAddress}
+use Rattle.mcode.specs.declared.Stop.{Stop}
 use Rattle.mcode.specs.Step.{followed}
+use Rattle.actions.specs.Core.{read_word}
+use Rattle.actions.proofs.Laws.{picked, refused}
 
 module _ (store : List ℕ) where
-  pub chain-on : (n a : ℕ) → 0 < n → a < length store → followed store n a ≡ followed store (n - 1) (get_or store a 0)
+  pub chain-on : (n i a v : ℕ) → i < n → read_word store a ≡ Ok v → followed store (n - i) a ≡ followed store (n - (i + 1)) v
   unfolding followed
-  chain-on zero a l h = elim (let z : ⊥ = omega arith in z) [ ]
-  chain-on (suc n) a l h = let q : suc n - 1 ≡ n = omega arith in rw (q, lt-ltb _ _ h) refl
+  chain-on n i a v l h =
+      let q : n - i ≡ suc (n - (i + 1)) = omega arith in
+      let e = picked _ _ _ _ h in
+      rw (q, e.0, e.1)
 
-  pub chain-off : (n a : ℕ) → 0 < n → length store ≤ a → followed store n a ≡ Fault BadAddress
+  pub chain-off : (n i a : ℕ) (k : Stop) → i < n → read_word store a ≡ Err k → followed store (n - i) a ≡ Err k
   unfolding followed
-  chain-off zero a l h = elim (let z : ⊥ = omega arith in z) [ ]
-  chain-off (suc n) a l h = rw (le-ltb _ _ h) refl
+  chain-off n i a k l h =
+      let q : n - i ≡ suc (n - (i + 1)) = omega arith in
+      let e = refused _ _ _ _ h in
+      rw (q, e.0, e.1)
 
-  pub chain-end : (n a : ℕ) → n ≤ 0 → followed store n a ≡ Is a
+  pub chain-end : (n i a : ℕ) → n ≤ i → followed store (n - i) a ≡ Ok a
   unfolding followed
-  chain-end n a l = let q : n ≡ zero = omega arith in rw q refl
+  chain-end n i a l = let q : n - i ≡ zero = omega arith in rw q refl

@@ -1,4 +1,5 @@
 -- What the last two rows decode and ask. Assumes nothing.
+use Rattle.std.specs.Prelude.{Ok, Err}
 use mathlib.Core.Path.{◌≡◌, refl}
 use mathlib.Core.Bool.{Bool, true, false}
 use mathlib.Core.Logic.{inr}
@@ -17,7 +18,6 @@ use Rattle.mcode.specs.Step.{Lent, perform_of, followed, computed, goes, word_in
 use Rattle.mcode.specs.declared.Position.{Position}
 use Rattle.mcode.specs.declared.Registers.{Registers}
 use Rattle.mcode.specs.declared.Stop.TheVariants.{BadAddress}
-use Rattle.mcode.specs.declared.Value.TheVariants.{Is, Fault}
 use Rattle.mcode.proofs.Listed.{None, among, left, one_left}
 use Rattle.actions.specs.declared.Core.{Core}
 use Rattle.actions.specs.Core.{operand_at}
@@ -29,7 +29,7 @@ pub follow_one : (lent : Lent) (q : Position) (x : State) → perform_of lent (F
 unfolding perform_of followed
 follow_one lent q x = choose (ltb x.machine.registers.l.0 (length x.store)) (word_in x x.machine.registers.l.0) (λ v. goes x (put q x.machine v))
   where
-    choose : (t : Bool) (v : ℕ) (f : ℕ → Outcome) → computed (pick t (Is v) (Fault BadAddress)) f ≡ pick t (f v) (halt BadAddress)
+    choose : (t : Bool) (v : ℕ) (f : ℕ → Outcome) → computed (pick t (Ok v) (Err BadAddress)) f ≡ pick t (f v) (halt BadAddress)
     choose true v f = refl
     choose false v f = refl
 

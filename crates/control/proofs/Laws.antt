@@ -10,8 +10,7 @@ use Rattle.mcode.specs.Step.{Lent}
 use Rattle.mcode.specs.declared.Module.{Module}
 use Rattle.mcode.specs.declared.Program.{Program}
 use Rattle.actions.specs.declared.Core.{Core}
-use Rattle.actions.specs.declared.Stepped.{Stepped}
-use Rattle.actions.specs.Core.{Stays, stepped}
+use Rattle.actions.specs.Core.{Stays}
 use Rattle.actions.specs.Table.{module_in, Tabled, Anchored, Based, Lends}
 use Rattle.control.specs.Frames.{in_frame, in_module}
 
@@ -24,13 +23,10 @@ based {table} {program} {r} t a = record { own = base-in t r.unit a.few ∙ sym 
 pub anchored-on : {table : List ℕ} {r q : Core} → Anchored table r → Stays r q → Anchored table q
 anchored-on {table} {r} {q} a s = record { few = rw s.unit a.few; start = rw (s.unit, s.start) a.start; g = rw (s.unit, s.g) a.g; own = s.own a.own }
 
-pub anchored-in : (table : List ℕ) (k at l s : ℕ) (r : Core) (q : Stepped) → k < most_modules → q ≡ stepped 0 0 (in_module table k at l s r) → Anchored table q.core
+pub anchored-in : (table : List ℕ) (k at l s : ℕ) (r q : Core) → k < most_modules → q ≡ in_module table k at l s r → Anchored table q
 anchored-in table k at l s r q h e = rw e (record { few = h; start = refl; g = refl; own = omega arith })
 
-pub anchored-as : (table : List ℕ) (n : ℕ) (r : Core) (q : Stepped) → Anchored table r → q ≡ stepped n 0 r → Anchored table q.core
-anchored-as table n r q a e = rw e a
-
-pub stays-framed : (to d l s : ℕ) (r : Core) (q : Stepped) → r.start ≤ to → q ≡ stepped 0 0 (in_frame to d l s r) → Stays r q.core
+pub stays-framed : (to d l s : ℕ) (r q : Core) → r.start ≤ to → q ≡ in_frame to d l s r → Stays r q
 stays-framed to d l s r q h e = rw e (record { start = refl; unit = refl; g = refl; own = λ o. h })
 
 -- a place that is counted from a start: its position, and that it is not before it

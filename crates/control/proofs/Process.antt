@@ -7,15 +7,16 @@ use native.Mathlib.Omega.{arith}
 use lib.Dec.{ltb, leb, eqb}
 use lib.ListN.{length, get_or, set, replicate}
 use borrow.Author.Tests.{leb-true, ltb-true}
+use Rattle.std.specs.Prelude.{Ok, Err}
 use Rattle.mcode.specs.declared.Stop.{Stop}
+use Rattle.mcode.specs.declared.Stop.TheVariants.{BadProcess}
 use Rattle.mcode.specs.Word.{pick, and, or}
 use Rattle.mcode.specs.Image.{most_modules}
-use Rattle.mcode.specs.Machine.{State, go, position, stop_number, stop_code}
+use Rattle.mcode.specs.Machine.{State, go, position, stop_number}
 use Rattle.mcode.specs.Step.{Lent, Process, process_at, is_process, standing, unit_based, restored, written, saved_store, restored_machine, is_target, changed, switched, is_caught, caught, trapped}
 use Rattle.mcode.proofs.Tests.{and_both}
 use Rattle.actions.specs.declared.Core.{Core}
-use Rattle.actions.specs.declared.Stepped.{Stepped}
-use Rattle.actions.specs.Core.{held, left_by, result_of, stepped}
+use Rattle.actions.specs.Core.{held, left_by, result_of}
 use Rattle.actions.specs.Table.{Anchored, Lends}
 use Rattle.control.specs.Table.{first_based, stands_in, Mapped}
 use Rattle.control.specs.Transfer.{sized, target_in, catcher_in, resumed}
@@ -75,7 +76,7 @@ written-six g l at m s v p store =
     let e : p + 4 + 1 ≡ p + 5 = omega arith in
     rw (b, c, d, e)
 
-pub anchored-resumed : (table : List ℕ) (k b p : ℕ) (x : Process) (r : Core) (q : Stepped) → k < most_modules → q ≡ stepped 0 0 (resumed table k b p x r) → Anchored table q.core
+pub anchored-resumed : (table : List ℕ) (k b p : ℕ) (x : Process) (r q : Core) → k < most_modules → q ≡ resumed table k b p x r → Anchored table q
 anchored-resumed table k b p x r q h e = rw e (record { few = h; start = refl; g = refl; own = omega arith })
 
 pub not_so : {k t n : ℕ} → k ≡ t → (k ≡ n → ⊥) → t ≡ n → ⊥
@@ -128,7 +129,7 @@ module _ {bytes table marks words : List ℕ} {lent : Lent} (h : Lends bytes tab
   -- the change to a process that passes the tests, with the old one saved over whichever store
   changed-in : Anchored table r → (target_in table marks store q ≡ most_modules → ⊥) → (b to n c : ℕ) (over : List ℕ)
       → left_by x (go (changed lent b (position to) n c q over x))
-      ≡ result_of (stepped 0 0 (resumed table (target_in table marks store q) b q (process_at store q) r))
+      ≡ result_of r (Ok (resumed table (target_in table marks store q) b q (process_at store q) r))
       (restored store (process_at store q).k ((process_at store q).s - 1 - (process_at store q).k) (replicate 16 0))
       (saved_store r.g.0 (position to) c (held r stack over []) n) out
   unfolding changed restored_machine saved_store
@@ -140,13 +141,13 @@ module _ {bytes table marks words : List ℕ} {lent : Lent} (h : Lends bytes tab
   -- a transfer to it, and one that is 35
   pub switched-in : Anchored table r → (target_in table marks store q ≡ most_modules → ⊥) → (b to n c : ℕ)
       → left_by x (switched lent b (position to) n c q x)
-      ≡ result_of (stepped 0 0 (resumed table (target_in table marks store q) b q (process_at store q) r))
+      ≡ result_of r (Ok (resumed table (target_in table marks store q) b q (process_at store q) r))
       (restored store (process_at store q).k ((process_at store q).s - 1 - (process_at store q).k) (replicate 16 0))
       (saved_store r.g.0 (position to) c (held r stack store []) n) out
   unfolding switched
   switched-in a t b to n c = rw (is-target t) (changed-in a t b to n c store)
 
-  pub switched-not : Mapped table marks → target_in table marks store q ≡ most_modules → (b to n c : ℕ) → left_by x (switched lent b (position to) n c q x) ≡ result_of (stepped 35 0 r) stack store out
+  pub switched-not : Mapped table marks → target_in table marks store q ≡ most_modules → (b to n c : ℕ) → left_by x (switched lent b (position to) n c q x) ≡ result_of r (Err BadProcess) stack store out
   unfolding switched
   switched-not m z b to n c = rw (no_target m z)
 
@@ -191,7 +192,7 @@ module _ {bytes table marks words : List ℕ} {lent : Lent} (h : Lends bytes tab
 
   pub trapped-in : Anchored table r → (c ≡ most_modules → ⊥)
       → left_by y (trapped lent k y)
-      ≡ result_of (stepped 0 0 (resumed table c 1 (get_or store 14 0) (process_at store (get_or store 14 0)) r))
+      ≡ result_of r (Ok (resumed table c 1 (get_or store 14 0) (process_at store (get_or store 14 0)) r))
       (restored store (process_at store (get_or store 14 0)).k ((process_at store (get_or store 14 0)).s - 1 - (process_at store (get_or store 14 0)).k) (replicate 16 0))
       (saved_store r.g.0 (position (r.pc - r.start)) 15 (held r stack (set store (r.p.0 + 6) (stop_number k)) []) r.depth) out
   unfolding trapped is_caught caught
@@ -201,7 +202,7 @@ module _ {bytes table marks words : List ℕ} {lent : Lent} (h : Lends bytes tab
       let m : target_in table marks store (get_or store 14 0) ≡ most_modules → ⊥ = not_so e n in
       rw (t, u, is-target h r (get_or store 14 0) stack store out m, e) (changed-in h r (get_or store 14 0) stack store out a m 1 (r.pc - r.start) r.depth 15 (set store (r.p.0 + 6) (stop_number k)))
 
-  pub trapped-not : Mapped table marks → c ≡ most_modules → left_by y (trapped lent k y) ≡ result_of (stepped (stop_number k) (stop_code k) r) stack store out
+  pub trapped-not : Mapped table marks → c ≡ most_modules → left_by y (trapped lent k y) ≡ result_of r (Err k) stack store out
   unfolding trapped is_caught catcher_in
   trapped-not m z =
       rw (not-all (leb 32 (stop_number k)) (not (or (eqb (get_or store 14 0) 0) (eqb (get_or store 14 0) r.p.0))) (is_target lent (get_or store 14 0) y) (target_in table marks store (get_or store 14 0)) (no_target h r (get_or store 14 0) stack store out m) z) refl

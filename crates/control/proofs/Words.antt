@@ -1,5 +1,5 @@
 -- The words of a stack in the store, one by one: as they are saved and as they are restored. Assumes nothing.
-use mathlib.Core.Path.{◌≡◌, refl, sym, ap, subst, ◌∙◌}
+use mathlib.Core.Path.{◌≡◌, refl, sym, ap, ◌∙◌}
 use mathlib.Core.List.{List}
 use Prim.Native.Nat.{ℕ, zero, suc, ◌+◌, ◌-◌, ◌<◌, ◌≤◌}
 use native.Mathlib.Omega.{arith}
@@ -15,22 +15,27 @@ restored-over store (suc n) m a v stack l =
     ap (restored store n (a + 1)) (set_comm stack m n v (get_or store a 0) (λ e. omega (arith, l, e)))
     ∙ restored-over store n m (a + 1) v (set stack n (get_or store a 0)) (omega (arith, l))
 
--- one word more, above those that are restored
-pub restored-up : (store : List ℕ) (n a : ℕ) (stack : List ℕ) → 0 < a → set (restored store n a stack) n (get_or store (a - 1) 0) ≡ restored store (n + 1) (a - 1) stack
+-- of k words from a up n are restored, from the last one down: one word more, above those
+pub restored-up : (store : List ℕ) (k n a : ℕ) (stack : List ℕ) → n < k
+    → set (restored store n (a + (k - n)) stack) n (get_or store (a + k - (n + 1)) 0) ≡ restored store (n + 1) (a + (k - (n + 1))) stack
 unfolding restored
-restored-up store n a stack h =
-    let v : ℕ = get_or store (a - 1) 0 in
+restored-up store k n a stack h =
+    let v : ℕ = get_or store (a + k - (n + 1)) 0 in
     let z : n + 1 ≡ suc n = omega arith in
-    let q : a ≡ a - 1 + 1 = omega (arith, h) in
-    rw z (sym (subst (λ (x : ℕ). restored store n x (set stack n v) ≡ set (restored store n a stack) n v) q (restored-over store n n a v stack (omega arith))))
+    let p : a + (k - n) ≡ a + (k - suc n) + 1 = omega (arith, h) in
+    let q : a + k - suc n ≡ a + (k - suc n) = omega (arith, h) in
+    rw (z, p, q) (sym (restored-over store n n (a + (k - suc n) + 1) (get_or store (a + (k - suc n)) 0) stack (omega arith)))
 
--- one word more
-pub saved-on : (stack : List ℕ) (n s : ℕ) (store : List ℕ) → 0 < n → saved stack n s store ≡ saved stack (n - 1) (s + 1) (set store s (get_or stack (n - 1) 0))
+-- of n words i are saved: one word more
+pub saved-on : (stack : List ℕ) (n i s : ℕ) (store : List ℕ) → i < n
+    → saved stack (n - i) (s + i) store ≡ saved stack (n - (i + 1)) (s + (i + 1)) (set store (s + i) (get_or stack (n - (i + 1)) 0))
 unfolding saved
-saved-on stack zero s store l = elim (let z : ⊥ = omega arith in z) [ ]
-saved-on stack (suc n) s store l = let q : suc n - 1 ≡ n = omega arith in rw q refl
+saved-on stack n i s store l =
+    let q : n - i ≡ suc (n - (i + 1)) = omega arith in
+    let p : s + i + 1 ≡ s + (i + 1) = omega arith in
+    rw (q, ← p) refl
 
 -- none left
-pub saved-all : (stack : List ℕ) (n s : ℕ) (store : List ℕ) → n ≤ 0 → saved stack n s store ≡ store
+pub saved-all : (stack : List ℕ) (n i s : ℕ) (store : List ℕ) → n ≤ i → saved stack (n - i) (s + i) store ≡ store
 unfolding saved
-saved-all stack n s store l = let q : n ≡ zero = omega arith in rw q refl
+saved-all stack n i s store l = let q : n - i ≡ zero = omega arith in rw q refl

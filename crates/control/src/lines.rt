@@ -11,20 +11,14 @@ fn highest_line(w: u16) -> usize
     if w < 256 {
         return 0;
     }
-    let mut i = 15usize;
-    let mut weight = 32768u16;
-    while w < weight {
-        weight = weight / 2;
-        i -= 1;
-    }
-    i
+    w.ilog2() as usize
 }
 
 // "The highest line is taken that is in the requests, not in M and not in store word 3": that line, or 0.
 pub fn line_of(requests: u16, mask: u16, held: u16) -> usize
     ensures { result ≡ highest (is_free requests mask held) 8 }
 {
-    highest_line(requests & (65535 - (mask | held)))
+    highest_line(requests & (!(mask | held)))
 }
 
 // The word without the bit of line i, which it has.

@@ -6,7 +6,6 @@ ghost use Rattle.actions.specs.Table.{module_in};
 ghost use Rattle.control.specs.Table.{count_in, first_based, stands_in, Entered, Mapped};
 
 use actions::TABLE_WORDS;
-use actions::leaf::wide;
 use marks::depth_of;
 
 // Number j of module k.
@@ -18,33 +17,18 @@ pub fn number(table: &[u16; TABLE_WORDS], k: usize, j: usize) -> u16
     table[i]
 }
 
-fn count_of(table: &[u16; TABLE_WORDS]) -> u16
-    ensures { result ≡ count_in table.now }
-{
-    table[0]
-}
-
 // The module whose base is a word, or the count of the modules.
 pub fn find_base(table: &[u16; TABLE_WORDS], word: u16) -> usize
     requires { count_in table.now ≤ most_modules }
     ensures { result ≡ first_based table.now word }
 {
-    let count = count_of(table) as usize;
-    let mut k = 0usize;
-    while k < count {
+    let count = table[0] as usize;
+    for k in 0..count {
         if number(table, k, 4) == word {
             return k;
         }
-        k = k + 1;
     }
     count
-}
-
-fn byte_in(image: &[u8], i: usize) -> u16
-    requires { i < length image.now }
-    ensures { (result ≡ get_or image.now i 0) × (result < 256) }
-{
-    wide(image[i])
 }
 
 // Whether module k is loaded and a position of it is marked with a depth.
@@ -53,7 +37,7 @@ pub fn stands(table: &[u16; TABLE_WORDS], map: &[u32], k: usize, at: u16, depth:
     requires depth_bound { depth ≤ 16 }
     ensures { result ≡ stands_in table.now map.now k at depth }
 {
-    if count_of(table) as usize <= k {
+    if table[0] as usize <= k {
         return false;
     }
     if number(table, k, 2) <= at {
@@ -67,9 +51,7 @@ fn word_in(image: &[u8], i: usize) -> u16
     requires { (i + 1 < length image.now) × (i < 1000000) }
     ensures { result ≡ word image.now i }
 {
-    let b = byte_in(image, i);
-    let c = byte_in(image, i + 1);
-    b * 256 + c
+    image[i] as u16 * 256 + image[i + 1] as u16
 }
 
 // The entry of procedure n of module k.

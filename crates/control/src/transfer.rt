@@ -1,12 +1,11 @@
 // Transfers, by 256 b, by a line and by a trap: everything is read before anything is written.
-ghost use Rattle.std.specs.Prelude.{◌≡◌, true, List, [], ◌∷◌, ℕ, ◌+◌, ◌-◌, ◌≤◌, ◌<◌, eqb, length, get_or, set, replicate};
+ghost use Rattle.std.specs.Prelude.{◌≡◌, Ok, true, List, [], ◌∷◌, ℕ, ◌+◌, ◌-◌, ◌≤◌, ◌<◌, eqb, length, get_or, set, replicate};
 ghost use Rattle.mcode.specs.Word.{pick};
 ghost use Rattle.mcode.specs.Image.{most_modules};
-ghost use Rattle.mcode.specs.Machine.{position, stop_number, stop_code};
+ghost use Rattle.mcode.specs.Machine.{position, stop_number};
 ghost use Rattle.mcode.specs.Decode as Act;
 ghost use Rattle.mcode.specs.Step.{Lent, process_at, restored, written, saved_store, taken_line, trapped as trap_of};
-ghost use Rattle.mcode.specs.declared.Stop.{Stop};
-ghost use Rattle.actions.specs.Core.{held, result_of, left_by, acted, stepped};
+ghost use Rattle.actions.specs.Core.{after, held, result_of, left_by, acted};
 ghost use Rattle.actions.specs.Table.{Anchored, Lends};
 ghost use Rattle.control.specs.Table.{Mapped};
 ghost use Rattle.control.specs.Frames.{Framed, Roomy};
@@ -14,16 +13,9 @@ ghost use Rattle.control.specs.Transfer.{sized, target_in, catcher_in, resumed};
 
 use crate::saves::{save_stack, words_at};
 use crate::table::{find_base, number, stands};
-use actions::leaf::{second_of, take_two, top_of, trapped};
+use actions::leaf::{nth_of, take};
 use actions::{Core, Stepped, TABLE_WORDS};
-use mcode::{Address, MOST_MODULES, Machine};
-
-fn word_at(store: &[u16], i: usize) -> u16
-    requires { i < length store.now }
-    ensures { result ≡ get_or store.now i 0 }
-{
-    store[i]
-}
+use mcode::{Address, MOST_MODULES, Machine, Stop};
 
 // "q+8 <= W; 24 <= v <= W; 1 <= s <= W; k = word s-1, k <= 16, k < s; s-1-k <= v-24"
 fn is_sized(store: &[u16], q: usize) -> bool
@@ -34,21 +26,21 @@ fn is_sized(store: &[u16], q: usize) -> bool
     if w < q + 8 {
         return false;
     }
-    let v = word_at(store, q + 5) as usize;
+    let v = store[q + 5] as usize;
     if v < Machine::MARGIN {
         return false;
     }
     if w < v {
         return false;
     }
-    let s = word_at(store, q + 4) as usize;
+    let s = store[q + 4] as usize;
     if s < 1 {
         return false;
     }
     if w < s {
         return false;
     }
-    let k = word_at(store, s - 1) as usize;
+    let k = store[s - 1] as usize;
     if 16 < k {
         return false;
     }
@@ -58,50 +50,26 @@ fn is_sized(store: &[u16], q: usize) -> bool
     s - 1 - k <= v - Machine::MARGIN
 }
 
-fn mask_of(r: Core, b: u16, m: u16) -> u16
-    ensures { result ≡ pick (eqb b 0) r.mask m }
-{
-    if b == 0 { r.mask } else { m }
-}
-
 // No stop: the registers of the process at q, which is in module k.
-fn resume(r: Core, table: &[u16; TABLE_WORDS], store: &[u16], k: usize, b: u16, q: u16) -> Stepped
+fn resume(r: Core, table: &[u16; TABLE_WORDS], store: &[u16], k: usize, b: u16, q: u16) -> Core
     requires { (k < most_modules) × (sized (length store.now) q (process_at store.now q) ≡ true) }
-    ensures { result ≡ stepped 0 0 (resumed table.now k b q (process_at store.now q) r) }
+    ensures { result ≡ resumed table.now k b q (process_at store.now q) r }
 {
     let i = q as usize;
-    let at = word_at(store, i + 2) as usize;
-    let above = word_at(store, i + 4);
-    let n = word_at(store, above as usize - 1);
-    let depth = n as usize;
+    let above = store[i + 4];
+    let n = store[above as usize - 1];
     let start = number(table, k, 1) as usize;
-    let pc = start + at;
-    let unit = k as u16;
-    let base = number(table, k, 4);
-    let g = Address(base);
-    let frame = word_at(store, i + 1);
-    let l = Address(frame);
-    let s = Address(above - 1 - n);
-    let limit = word_at(store, i + 5) as usize;
-    let h = Address((limit - Machine::MARGIN) as u16);
-    let p = Address(q);
-    let mask = mask_of(r, b, word_at(store, i + 3));
-    let core = Core {
-        pc,
-        depth,
+    Core {
+        pc: start + store[i + 2] as usize,
+        depth: n as usize,
         start,
-        unit,
-        g,
-        l,
-        s,
-        h,
-        p,
-        mask,
-    };
-    Stepped {
-        stop: 0,
-        code: 0,
-        core,
+        unit: k as u16,
+        g: Address(number(table, k, 4)),
+        l: Address(store[i + 1]),
+        s: Address(above - 1 - n),
+        h: Address((store[i + 5] as usize - Machine::MARGIN) as u16),
+        p: Address(q),
+        mask: if b == 0 { r.mask } else { store[i + 3] },
     }
 }
 
@@ -171,10 +139,10 @@ fn target(table: &[u16; TABLE_WORDS], map: &[u32], store: &[u16], q: u16) -> usi
     if !is_sized(store, i) {
         return MOST_MODULES;
     }
-    let s = word_at(store, i + 4) as usize;
-    let n = word_at(store, s - 1) as usize;
-    let k = find_base(table, word_at(store, i));
-    if !stands(table, map, k, word_at(store, i + 2), n) {
+    let s = store[i + 4] as usize;
+    let n = store[s - 1] as usize;
+    let k = find_base(table, store[i]);
+    if !stands(table, map, k, store[i + 2], n) {
         return MOST_MODULES;
     }
     k
@@ -192,14 +160,14 @@ fn change(
     d: usize,
     c: usize,
     to: usize,
-) -> Stepped
+) -> Core
     requires k_lt_most_modules { (k < most_modules) × (sized (length store.old) q (process_at store.old q) ≡ true) }
     requires roomy { Roomy (length store.old) r }
     requires d_bound { (d ≤ 16) × (c < length store.old) × (r.start ≤ to) × (to - r.start < 65536) }
-    ensures { (result ≡ stepped 0 0 (resumed table.now k b q (process_at store.old q) r)) × (stack.new ≡ restored store.old (process_at store.old q).k ((process_at store.old q).s - 1 - (process_at store.old q).k) (replicate 16 0)) × (store.new ≡ saved_store r.g.0 (position (to - r.start)) c (held r stack.old store.old []) d) }
+    ensures { (result ≡ resumed table.now k b q (process_at store.old q) r) × (stack.new ≡ restored store.old (process_at store.old q).k ((process_at store.old q).s - 1 - (process_at store.old q).k) (replicate 16 0)) × (store.new ≡ saved_store r.g.0 (position (to - r.start)) c (held r stack.old store.old []) d) }
 {
-    let s = word_at(store, q as usize + 4) as usize;
-    let n = word_at(store, s - 1) as usize;
+    let s = store[q as usize + 4] as usize;
+    let n = store[s - 1] as usize;
     let next = resume(r, table, store, k, b, q);
     exchange(r, stack, store, s - 1 - n, n, d, c, to);
     next
@@ -219,27 +187,27 @@ pub fn transfer(
     requires framed { Framed table.now (length store.old) r }
     requires anchored { Anchored table.now r }
     requires lt_depth { (1 < r.depth) × (r.start ≤ to) × (to - r.start < 65536) }
-    ensures { ((lent : Lent) (bytes words : List ℕ) → Lends bytes table.now map.now words lent → (out : List ℕ) → result_of result stack.new store.new out ≡ acted lent (Act.Transfer b) to r stack.old store.old out) × Anchored table.now result.core }
+    ensures { ((lent : Lent) (bytes words : List ℕ) → Lends bytes table.now map.now words lent → (out : List ℕ) → result_of r result stack.new store.new out ≡ acted lent (Act.Transfer b) to r stack.old store.old out) × Anchored table.now (after r result) }
 {
-    let a = top_of(r, stack) as usize;
+    let a = nth_of::<0>(r, stack) as usize;
     if store.len() <= a {
-        return trapped(r, 32);
+        return Err(Stop::BadAddress);
     }
-    let c = second_of(r, stack) as usize;
+    let c = nth_of::<1>(r, stack) as usize;
     if store.len() <= c {
-        return trapped(r, 32);
+        return Err(Stop::BadAddress);
     }
-    let q = word_at(store, a);
+    let q = store[a];
     if q == r.p.0 {
         store[c] = r.p.0;
-        return take_two(r, stack, to);
+        return take::<2>(r, stack, to);
     }
     let k = target(table, map, store, q);
     if k == MOST_MODULES {
-        return trapped(r, 35);
+        return Err(Stop::BadProcess);
     }
     let d = r.depth;
-    change(r, table, stack, store, k, b, q, d - 2, c, to)
+    Ok(change(r, table, stack, store, k, b, q, d - 2, c, to))
 }
 
 // Line i: to the process in word 2i, with the mask changed, the whole stack saved and the position as it is; the old one goes to word
@@ -256,38 +224,35 @@ pub fn take_line(
     requires framed { Framed table.now (length store.old) r }
     requires anchored { Anchored table.now r }
     requires i_bound { (i < 16) × (32 ≤ length store.old) × (r.pc - r.start < 65536) }
-    ensures { ((lent : Lent) (bytes words : List ℕ) → Lends bytes table.now map.now words lent → (out : List ℕ) → result_of result stack.new store.new out ≡ left_by (held r stack.old store.old out) (taken_line lent i (held r stack.old store.old out))) × Anchored table.now result.core }
+    ensures { ((lent : Lent) (bytes words : List ℕ) → Lends bytes table.now map.now words lent → (out : List ℕ) → result_of r result stack.new store.new out ≡ left_by (held r stack.old store.old out) (taken_line lent i (held r stack.old store.old out))) × Anchored table.now (after r result) }
 {
     let from = 2 * i;
-    let q = word_at(store, from);
+    let q = store[from];
     if q == r.p.0 {
         store[from + 1] = r.p.0;
-        return Stepped {
-            stop: 0,
-            code: 0,
-            core: r,
-        };
+        return Ok(r);
     }
     let k = target(table, map, store, q);
     if k == MOST_MODULES {
-        return trapped(r, 35);
+        return Err(Stop::BadProcess);
     }
     let d = r.depth;
     let to = r.pc;
-    change(r, table, stack, store, k, 1, q, d, from + 1, to)
+    Ok(change(r, table, stack, store, k, 1, q, d, from + 1, to))
 }
 
 // The module of the process that catches a stop with this number: that of word 14, where the stop is a trap and the word is not 0 and not
 // P, which is p; MOST_MODULES where none can.
-fn catcher(table: &[u16; TABLE_WORDS], map: &[u32], store: &[u16], p: u16, number: u32) -> usize
+fn catcher(table: &[u16; TABLE_WORDS], map: &[u32], store: &[u16], p: u16, stop: Stop) -> usize
     requires mapped { Mapped table.now map.now }
     requires in_bounds { 32 ≤ length store.now }
-    ensures { result ≡ catcher_in table.now map.now store.now p number }
+    ensures { result ≡ catcher_in table.now map.now store.now p (stop_number stop) }
 {
+    let number = stop.number();
     if number < 32 {
         return MOST_MODULES;
     }
-    let q = word_at(store, 14);
+    let q = store[14];
     if q == 0 {
         return MOST_MODULES;
     }
@@ -305,9 +270,9 @@ fn resume_noted(
     k: usize,
     q: u16,
     number: u16,
-) -> Stepped
+) -> Core
     requires { (k < most_modules) × (sized (length store.old) q (process_at store.old q) ≡ true) × (r.p.0 + 8 ≤ length store.old) }
-    ensures { (result ≡ stepped 0 0 (resumed table.now k 1 q (process_at store.old q) r)) × (store.new ≡ set store.old (r.p.0 + 6) number) }
+    ensures { (result ≡ resumed table.now k 1 q (process_at store.old q) r) × (store.new ≡ set store.old (r.p.0 + 6) number) }
 {
     let p = r.p.0 as usize;
     let next = resume(r, table, store, k, 1, q);
@@ -324,31 +289,26 @@ pub fn catch_trap(
     map: &[u32],
     stack: &mut [u16; 16],
     store: &mut [u16],
-    number: u32,
-    code: u16,
+    stop: Stop,
 ) -> Stepped
     requires mapped { Mapped table.now map.now }
     requires framed { Framed table.now (length store.old) r }
     requires anchored { Anchored table.now r }
-    requires number_bound { (number < 65536) × (32 ≤ length store.old) × (r.pc - r.start < 65536) }
-    ensures { ((lent : Lent) (bytes words : List ℕ) → Lends bytes table.now map.now words lent → (j : Stop) → stop_number j ≡ number → stop_code j ≡ code → (out : List ℕ) → result_of result stack.new store.new out ≡ left_by (held r stack.old store.old out) (trap_of lent j (held r stack.old store.old out))) × Anchored table.now result.core }
+    requires pc_bound { (32 ≤ length store.old) × (r.pc - r.start < 65536) }
+    ensures { ((lent : Lent) (bytes words : List ℕ) → Lends bytes table.now map.now words lent → (out : List ℕ) → result_of r result stack.new store.new out ≡ left_by (held r stack.old store.old out) (trap_of lent stop (held r stack.old store.old out))) × Anchored table.now (after r result) }
 {
-    let k = catcher(table, map, store, r.p.0, number);
+    let k = catcher(table, map, store, r.p.0, stop);
     if k == MOST_MODULES {
-        return Stepped {
-            stop: number,
-            code,
-            core: r,
-        };
+        return Err(stop);
     }
-    let q = word_at(store, 14);
-    let s = word_at(store, q as usize + 4) as usize;
-    let n = word_at(store, s - 1) as usize;
+    let q = store[14];
+    let s = store[q as usize + 4] as usize;
+    let n = store[s - 1] as usize;
     let words = words_at(store, s - 1 - n, n);
-    let next = resume_noted(r, table, store, k, q, number as u16);
+    let next = resume_noted(r, table, store, k, q, stop.number());
     let d = r.depth;
     let to = r.pc;
     save_process(r, stack, store, d, 15, to);
     *stack = words;
-    next
+    Ok(next)
 }

@@ -1,16 +1,16 @@
 -- Laws of the tests of a lent map: one that fails, marks with the same floor, and the test of one position as the code makes it.
-use Rattle.std.proofs.Common.{◌≡◌, ℕ, ◌+◌, ◌-◌, ◌*◌, ◌%◌, ◌<◌, ◌≤◌, Bool, true, false, eqb, leb, List, length, get_or, sym, refl, ap, ◌∙◌, arith, eq-eqb, ne_eqb, eqb-true, le-leb}
+use Rattle.std.proofs.Common.{◌≡◌, ℕ, ◌+◌, ◌-◌, ◌%◌, ◌<◌, ◌≤◌, Bool, true, false, eqb, leb, List, length, get_or, sym, refl, ap, ◌∙◌, arith, eq-eqb, ne_eqb, eqb-true, le-leb}
 use mathlib.Core.Bool.{false≢true}
 use native.Mathlib.Decide.{dec_lt}
 use borrow.Author.Tests.{lt-leb}
 use Rattle.mcode.specs.Word.{pick, and, all_below}
-use Rattle.mcode.specs.Depths.{unmarked, depth_of, is_mark, passed, followed, flow_at}
+use Rattle.mcode.specs.Depths.{unmarked, depth_of, is_mark, passed, followed}
 use Rattle.mcode.specs.declared.Flow.{Flow}
 use Rattle.mcode.specs.declared.Flow.TheVariants.{Fault, Ends, To, Fork}
-use Rattle.mcode.specs.declared.Module.{Module}
 use Rattle.mcode.proofs.Tests.{refuted, and_both, both-and, all-at}
 use Rattle.mcode.proofs.Marks.{fields, depth-passed, passed-own, passed-twice, passed-floor, passed-mark, mark-small}
-use Rattle.depths.specs.Lent.{light_of, depths_of}
+use Rattle.depths.specs.Lent.{depths_of}
+use Rattle.depths.specs.declared.code.Rules.{Rules}
 use Rattle.depths.specs.Test.{followed_in, mark_fits}
 use Rattle.depths.proofs.Lists.{get_d_any}
 use Rattle.depths.proofs.Flows.{flow-unmarked}
@@ -27,11 +27,20 @@ pub floor-real : (k : ℕ) → is_mark k ≡ true → Floor (passed k 0)
 floor-real k t = (passed-mark k 0 t (omega arith), depth-passed k 0 (omega arith))
 
 -- a mark has the results and the saved depths of a floor where the difference, modulo 2^32, is a depth
-pub same-floor : (k f x : ℕ) → Floor f → x < 0x1_0000_0000 → (x + f) % 0x1_0000_0000 ≡ k → leb x 16 ≡ and (is_mark k) (eqb (passed k 0) f)
-same-floor k f x (t, z) h e = go (dec_lt 16 x)
+pub same-floor : (k f : ℕ) → Floor f → k < 0x1_0000_0000 → leb ((k + (0x1_0000_0000 - f)) % 0x1_0000_0000) 16 ≡ and (is_mark k) (eqb (passed k 0) f)
+same-floor k f (t, z) r = go (dec_lt 16 x)
   where
+    x : ℕ
+    x = (k + (0x1_0000_0000 - f)) % 0x1_0000_0000
+
     small : f < 0x8000_0000
     small = mark-small f t
+
+    h : x < 0x1_0000_0000
+    h = omega arith
+
+    e : (x + f) % 0x1_0000_0000 ≡ k
+    e = omega (arith, small)
 
     apart : 16 < x → and (is_mark k) (eqb (passed k 0) f) ≡ true → ⊥
     apart n u =
@@ -53,32 +62,14 @@ same-floor k f x (t, z) h e = go (dec_lt 16 x)
         let q = ap (λ (j : ℕ). passed j 0) (near l) ∙ passed-twice f x 0 (omega arith) ∙ ap (passed f) (sym z) ∙ passed-own f in
         rw (le-leb x 16 l) (sym (both-and (is_mark k) (eqb (passed k 0) f) r (eq-eqb (passed k 0) f q)))
 
--- what is left to look at: each position from p on twice, but the next one once where it has the results of the floor
-abbrev pub left : List ℕ → ℕ → ℕ → ℕ
-left map p f = 2 * (length map - p) + pick (eqb (passed (get_or map p 0) 0) f) 0 1
-
-pub position-less : (map : List ℕ) (p f : ℕ) → p < length map → left map (p + 1) f < left map p f
-position-less map p f l = go (eqb (passed (get_or map (p + 1) 0) 0) f) (eqb (passed (get_or map p 0) 0) f)
-  where
-    go : (a b : Bool) → 2 * (length map - (p + 1)) + pick a 0 1 < 2 * (length map - p) + pick b 0 1
-    go true true = omega arith
-    go true false = omega arith
-    go false true = omega arith
-    go false false = omega arith
-
-pub floor-less : (map : List ℕ) (p f g : ℕ) → is_mark (get_or map p 0) ≡ true → and (is_mark (get_or map p 0)) (eqb (passed (get_or map p 0) 0) f) ≡ false → g ≡ passed (get_or map p 0) 0 → left map p g < left map p f
-floor-less map p f g l t e =
-    let n : eqb (passed (get_or map p 0) 0) f ≡ false = rw l at t in
-    rw (eq-eqb (passed (get_or map p 0) 0) g (sym e), n) (omega arith)
-
 -- RTN and TRAP ask nothing of a successor
 pub last-follows : (map : List ℕ) (t : Bool) → followed_in map (pick t Ends Fault) ≡ t
 last-follows map true = refl
 last-follows map false = refl
 
-module _ (image : List ℕ) (count : ℕ) (procs tables : List ℕ) (m : Module) (map : List ℕ) where
+module _ (r : Rules) (map : List ℕ) where
   -- the test of the successors is the same in every analysis of marks
-  followed-in : (f : Flow) → followed_in map f ≡ followed (depths_of image count procs tables m) map f
+  followed-in : (f : Flow) → followed_in map f ≡ followed (depths_of r) map f
   followed-in Fault = refl
   followed-in Ends = refl
   followed-in (To q d) = refl
@@ -86,12 +77,12 @@ module _ (image : List ℕ) (count : ℕ) (procs tables : List ℕ) (m : Module)
 
   -- the code reads a mark inside the map, with no default
   pub mark-tested : (p : ℕ) (ok : Bool) → p < length map → (get_or map p 0 ≡ unmarked → ⊥)
-      → ok ≡ followed_in map (flow_at image (light_of count procs tables) m p (get_or map p 0))
-      → mark_fits (depths_of image count procs tables m) map p ≡ ok
-  mark-tested p ok l n o = rw (get_d_any map p unmarked 0 l, ne_eqb _ _ n) (sym (o ∙ followed-in (flow_at image (light_of count procs tables) m p (get_or map p 0))))
+      → ok ≡ followed_in map ((depths_of r).flow p (get_or map p 0))
+      → mark_fits (depths_of r) map p ≡ ok
+  mark-tested p ok l n o = rw (get_d_any map p unmarked 0 l, ne_eqb _ _ n) (sym (o ∙ followed-in ((depths_of r).flow p (get_or map p 0))))
 
-  pub mark-absent : (p : ℕ) → p < length map → get_or map p 0 ≡ unmarked → mark_fits (depths_of image count procs tables m) map p ≡ true
+  pub mark-absent : (p : ℕ) → p < length map → get_or map p 0 ≡ unmarked → mark_fits (depths_of r) map p ≡ true
   mark-absent p l e = rw (get_d_any map p unmarked 0 l, eq-eqb _ _ e) refl
 
-  pub mark-odd : (p : ℕ) → p < length map → (get_or map p 0 ≡ unmarked → ⊥) → is_mark (get_or map p 0) ≡ false → mark_fits (depths_of image count procs tables m) map p ≡ false
-  mark-odd p l n o = rw (get_d_any map p unmarked 0 l, ne_eqb _ _ n, flow-unmarked image (light_of count procs tables) m p (get_or map p 0) o) refl
+  pub mark-odd : (p : ℕ) → p < length map → (get_or map p 0 ≡ unmarked → ⊥) → is_mark (get_or map p 0) ≡ false → mark_fits (depths_of r) map p ≡ false
+  mark-odd p l n o = rw (get_d_any map p unmarked 0 l, ne_eqb _ _ n, flow-unmarked r.code.image.now r.program.now r.code.m p (get_or map p 0) o) refl

@@ -1,5 +1,5 @@
 -- The cases of the rules: what follows an instruction by its row, and by the kind of its opcode.
-use Rattle.std.proofs.Common.{◌≡◌, ℕ, zero, suc, ◌+◌, ◌-◌, ◌<◌, ◌≤◌, Bool, true, false, eqb, ltb, leb, List, get_or, drop, sym, refl, ap, ◌∙◌, ap₂, le_of_suc-le-suc, not-suc-le-zero, add-zero, add-suc, suc-add, zero-add, arith, get_or-drop, ltb-false, ltb-true, le-ltb, lt-ltb, eq-eqb, ne_eqb, eqb-true, leb-true}
+use Rattle.std.proofs.Common.{◌≡◌, ℕ, zero, suc, ◌+◌, ◌-◌, ◌<◌, ◌≤◌, Bool, true, false, eqb, ltb, leb, List, get_or, drop, sym, refl, ap, ◌∙◌, ap₂, le_of_suc-le-suc, not-suc-le-zero, add-zero, add-suc, suc-add, zero-add, arith, get_or-drop, ltb-false, ltb-true, le-ltb, lt-ltb, eq-eqb, ne_eqb, eqb-true, leb-true, Option, Some, None}
 use mathlib.Core.Bool.{false≢true}
 use native.Mathlib.Decide.{ℕ_discrete}
 use Rattle.mcode.specs.declared.Flow.{Flow}
@@ -11,14 +11,12 @@ use Rattle.mcode.specs.Opcode.{lengths, takens, lefts}
 use Rattle.mcode.specs.Image.{code_byte}
 use Rattle.mcode.specs.Depths.{depth_of, is_mark, passed, leaves, permits, depth_flow, carry, flow_at, onward, jumps, calls, calls_in, names_module, target}
 use Rattle.mcode.proofs.Marks.{depth-passed, passed-own, passed-twice, passed-row, leaves-passed}
-use Rattle.depths.specs.declared.rules.Row.{Row}
-use Rattle.depths.specs.declared.rules.Row.TheVariants.{Unfit, Next}
 use Rattle.depths.specs.Cases.{row_at, jumping, ending, saving, plain, kind_of, kinds_from, kinds}
 
 -- what follows a row, where f says what follows its numbers
-abbrev after : (ℕ → ℕ → Flow) → Row → Flow
-after f Unfit = Fault
-after f (Next n e) = f n e
+abbrev after : (ℕ → ℕ → Flow) → Option (ℕ × ℕ) → Flow
+after f None = Fault
+after f (Some (n, e)) = f n e
 
 -- equal marks give an equal flow
 carry_same : {f g : ℕ → ℕ} → ((d : ℕ) → f d ≡ g d) → (x : Flow) → carry f x ≡ carry g x
@@ -188,21 +186,21 @@ unfolding kinds
 kind_at op l = kind-from 0 256 op l ∙ ap kind_of (zero-add op)
 
 -- what a row says of the marks before and after it
-row-inverse : (a b c : Bool) (n x n' x' : ℕ) → pick a Unfit (pick b Unfit (pick c Unfit (Next n x))) ≡ Next n' x' → (b ≡ false) × (c ≡ false) × (x ≡ x')
-row-inverse true b c n x n' x' q = absurd (let z : ◌≡◌ {A = ℕ} 0 1 = cc in let y : ⊥ = omega arith in y)
-row-inverse false true c n x n' x' q = absurd (let z : ◌≡◌ {A = ℕ} 0 1 = cc in let y : ⊥ = omega arith in y)
-row-inverse false false true n x n' x' q = absurd (let z : ◌≡◌ {A = ℕ} 0 1 = cc in let y : ⊥ = omega arith in y)
-row-inverse false false false n x n' x' q = (refl, refl, cc)
+row-inverse : (a b c : Bool) (x y : ℕ × ℕ) → pick a None (pick b None (pick c None (Some x))) ≡ Some y → (b ≡ false) × (c ≡ false) × (x ≡ y)
+row-inverse true b c x y q = cc
+row-inverse false true c x y q = cc
+row-inverse false false true x y q = cc
+row-inverse false false false x y q = (refl, refl, cc)
 
-module _ (op p k size n e : ℕ) (q : row_at op p k size ≡ Next n e) where
+module _ (op p k size n e : ℕ) (q : row_at op p k size ≡ Some (n, e)) where
   abbrev deep : ℕ
   deep = depth_of k - get_or takens op 0 + get_or lefts op 0
 
   row-says : (get_or takens op 0 ≤ depth_of k) × (deep ≤ 16) × (passed k deep ≡ e)
   unfolding row_at
   row-says =
-      let (a, b, c) = row-inverse (ltb size (p + get_or lengths op 0)) (ltb (depth_of k) (get_or takens op 0)) (ltb 16 deep) (p + get_or lengths op 0) (passed k deep) n e q in
-      (ltb-false (depth_of k) (get_or takens op 0) a, ltb-false 16 deep b, c)
+      let (a, b, c) = row-inverse (ltb size (p + get_or lengths op 0)) (ltb (depth_of k) (get_or takens op 0)) (ltb 16 deep) (p + get_or lengths op 0, passed k deep) (n, e) q in
+      (ltb-false (depth_of k) (get_or takens op 0) a, ltb-false 16 deep b, ap (λ (x : ℕ × ℕ). x.1) c)
 
   row_of : (o : ℕ) → op ≡ o → (x y : ℕ) → get_or takens o 0 ≡ x → get_or lefts o 0 ≡ y → (x ≤ depth_of k) × (depth_of k - x + y ≤ 16) × (passed k (depth_of k - x + y) ≡ e)
   row_of o h x y t u =
@@ -235,6 +233,10 @@ carry-jumps op t n e h = go (leb 0o36 op) refl (or (eqb op 0o31) (or (eqb op 0o3
     go false q true = ap (To t) (passed-own e)
     go false q false = ap (λ (x : ℕ). Fork t x n x) (passed-own e)
 
+-- the image from a on has its bytes
+pub code-byte : (image bytes : List ℕ) (a i : ℕ) → bytes ≡ drop a image → byte bytes i ≡ byte image (a + i)
+code-byte image bytes a i e = ap (λ (l : List ℕ). byte l i) e ∙ get_or-drop a image i 0
+
 -- the cases of a row, at a position with the mark k
 module _ (image : List ℕ) (program : Program) (m : Module) (p k : ℕ) where
   abbrev next : ℕ → ℕ → ℕ → Flow
@@ -253,7 +255,7 @@ module _ (image : List ℕ) (program : Program) (m : Module) (p k : ℕ) where
     where
       by : (a b c d : Bool) (n e : ℕ) → (d ≡ false → e ≤ 16)
           → carry (leaves k op) (pick a Fault (pick b Fault (pick c Fault (pick d Fault (onward image program m p op (code_byte image m (p + 1)) (code_byte image m (p + 2)) n e)))))
-          ≡ pick a Fault (after (ahead op) (pick b Unfit (pick c Unfit (pick d Unfit (Next n (passed k e))))))
+          ≡ pick a Fault (after (ahead op) (pick b None (pick c None (pick d None (Some (n, passed k e))))))
       by true b c d n e l = refl
       by false true c d n e l = refl
       by false false true d n e l = refl
@@ -264,11 +266,21 @@ module _ (image : List ℕ) (program : Program) (m : Module) (p k : ℕ) where
   unfolding flow_at
   flow-unmarked l = rw l refl
 
-  module _ (real : is_mark k ≡ true) (op size : ℕ) (o : op ≡ code_byte image m p) (s : size ≡ m.length) where
-    abbrev of_row : Row → Flow
+  -- the code's bytes and its length, as they are lent
+  module _ (real : is_mark k ≡ true) (bytes : List ℕ) (begins : bytes ≡ drop m.code image) (size : ℕ) (s : size ≡ m.length) where
+    abbrev op : ℕ
+    op = get_or bytes p 0
+
+    at : (i : ℕ) → byte bytes i ≡ code_byte image m i
+    at i = code-byte image bytes m.code i begins
+
+    o : op ≡ code_byte image m p
+    o = at p
+
+    abbrev of_row : Option (ℕ × ℕ) → Flow
     of_row r = pick (permits k op) (pick (eqb (get_or lengths op 0) 0) Fault (after (ahead op) r)) Fault
 
-    by_row : (r : Row) → row_at op p k size ≡ r → flow_at image program m p k ≡ of_row r
+    by_row : (r : Option (ℕ × ℕ)) → row_at op p k size ≡ r → flow_at image program m p k ≡ of_row r
     unfolding flow_at
     by_row r q = rw (real, sym o, carried op o) (ap of_row (ap (row_at op p k) (sym s) ∙ q))
 
@@ -277,10 +289,10 @@ module _ (image : List ℕ) (program : Program) (m : Module) (p k : ℕ) where
     none true false = refl
     none false u = refl
 
-    pub flow-unfit : row_at op p k size ≡ Unfit → flow_at image program m p k ≡ Fault
-    flow-unfit q = by_row Unfit q ∙ none (permits k op) (eqb (get_or lengths op 0) 0)
+    pub flow-unfit : row_at op p k size ≡ None → flow_at image program m p k ≡ Fault
+    flow-unfit q = by_row None q ∙ none (permits k op) (eqb (get_or lengths op 0) 0)
 
-    module _ (n e : ℕ) (q : row_at op p k size ≡ Next n e) where
+    module _ (n e : ℕ) (q : row_at op p k size ≡ Some (n, e)) where
       -- any but STORE and LODFW passes its mark on
       passes : saving op ≡ false → (f : Flow) → carry (leaves k op) f ≡ carry (passed e) f
       passes t f =
@@ -291,7 +303,7 @@ module _ (image : List ℕ) (program : Program) (m : Module) (p k : ℕ) where
       module _ (κ : ℕ) (x : κ ≡ kind_of op) where
         -- where it is permitted and listed
         met : permits k op ≡ true → eqb (get_or lengths op 0) 0 ≡ false → flow_at image program m p k ≡ ahead op n e
-        met t u = by_row (Next n e) q ∙ rw (t, u) refl
+        met t u = by_row (Some (n, e)) q ∙ rw (t, u) refl
 
         pub flow-plain : κ ≤ 1 → flow_at image program m p k ≡ To n e
         unfolding kind_of
@@ -299,13 +311,13 @@ module _ (image : List ℕ) (program : Program) (m : Module) (p k : ℕ) where
             let (u, j, h, t, y) = of_plain κ (eqb (get_or lengths op 0) 0) (jumping op) (ending op) (saving op) (plain op) x l in
             met (permits-on k op h t) u ∙ passes t (next op n e) ∙ ap (carry (passed e)) (onward-plain image program m p op (code_byte image m (p + 1)) (code_byte image m (p + 2)) n (depth_of e) j h y) ∙ ap (To n) (passed-own e)
 
-        pub flow-jump : 1 < κ → κ ≤ 2 → (t b c : ℕ) → t ≡ target op (p + 1) b c → b ≡ code_byte image m (p + 1) → c ≡ code_byte image m (p + 2)
-            → flow_at image program m p k ≡ jumps op t n e
+        pub flow-jump : 1 < κ → κ ≤ 2 → (t : ℕ) → t ≡ target op (p + 1) (byte bytes (p + 1)) (byte bytes (p + 1 + 1)) → flow_at image program m p k ≡ jumps op t n e
         unfolding kind_of
-        flow-jump g l t b c z y w =
+        flow-jump g l t z =
             let (u, j) = of-jump κ (eqb (get_or lengths op 0) 0) (jumping op) (ending op) (saving op) (plain op) x g l in
             let near = ltb-true op 0o40 (second (leb 0o30 op) (ltb op 0o40) j) in
-            let t' : target op (p + 1) (code_byte image m (p + 1)) (code_byte image m (p + 2)) ≡ t = rw (sym y, sym w) (sym z) in
+            let w : byte bytes (p + 1 + 1) ≡ code_byte image m (p + 2) = ap (byte bytes) (omega arith) ∙ at (p + 2) in
+            let t' : target op (p + 1) (code_byte image m (p + 1)) (code_byte image m (p + 2)) ≡ t = sym (z ∙ ap₂ (target op (p + 1)) (at (p + 1)) w) in
             let far : (i : ℕ) → 0o40 ≤ i → op ≡ i → ⊥ = λ i a v. omega arith in
             let other : saving op ≡ false = rw (ne_eqb op 0o262 (far 0o262 (omega arith)), ne_eqb op 0o260 (far 0o260 (omega arith))) refl in
             met (permits-other k op (far 0o354 (omega arith)) (far 0o262 (omega arith)) (far 0o260 (omega arith))) u
@@ -317,26 +329,23 @@ module _ (image : List ℕ) (program : Program) (m : Module) (p k : ℕ) where
         unfolding kind_of
         flow-last g l =
             let (u, h) = of-last κ (eqb (get_or lengths op 0) 0) (jumping op) (ending op) (saving op) (plain op) x g l in
-            by_row (Next n e) q ∙ rw (u, onward-ends image program m p op (code_byte image m (p + 1)) (code_byte image m (p + 2)) n (depth_of e) h) refl
+            by_row (Some (n, e)) q ∙ rw (u, onward-ends image program m p op (code_byte image m (p + 1)) (code_byte image m (p + 2)) n (depth_of e) h) refl
 
         pub flow-saves : 4 < κ → κ ≤ 5 → flow_at image program m p k ≡ pick (permits k op) (To n (leaves k op (depth_of e))) Fault
         unfolding kind_of
         flow-saves g l =
             let (u, t) = of-saves κ (eqb (get_or lengths op 0) 0) (jumping op) (ending op) (saving op) (plain op) x g l in
             let (j, h, y) = saving-plain op t in
-            by_row (Next n e) q ∙ rw (u, onward-plain image program m p op (code_byte image m (p + 1)) (code_byte image m (p + 2)) n (depth_of e) j h y) refl
+            by_row (Some (n, e)) q ∙ rw (u, onward-plain image program m p op (code_byte image m (p + 1)) (code_byte image m (p + 2)) n (depth_of e) j h y) refl
 
         pub flow-unlisted : 5 < κ → flow_at image program m p k ≡ Fault
         unfolding kind_of
-        flow-unlisted g = by_row (Next n e) q ∙ rw (of_none κ (eqb (get_or lengths op 0) 0) (jumping op) (ending op) (saving op) (plain op) x g) (none (permits k op) true)
+        flow-unlisted g = by_row (Some (n, e)) q ∙ rw (of_none κ (eqb (get_or lengths op 0) 0) (jumping op) (ending op) (saving op) (plain op) x g) (none (permits k op) true)
 
-        pub flow_next : 3 < κ → κ ≤ 4 → (b c : ℕ) → b ≡ code_byte image m (p + 1) → c ≡ code_byte image m (p + 2)
+        pub flow_next : 3 < κ → κ ≤ 4 → (b c : ℕ) → b ≡ byte bytes (p + 1) → c ≡ byte bytes (p + 2)
             → flow_at image program m p k ≡ carry (passed e) (onward image program m p op b c n (depth_of e))
         unfolding kind_of
         flow_next g l b c y w =
             let (u, j, h, t, v) = of_other κ (eqb (get_or lengths op 0) 0) (jumping op) (ending op) (saving op) (plain op) x g l in
-            met (permits-on k op h t) u ∙ passes t (next op n e) ∙ ap₂ (λ (s t : ℕ). carry (passed e) (onward image program m p op s t n (depth_of e))) (sym y) (sym w)
-
--- the image from a on has its bytes
-pub code-byte : (image code : List ℕ) (a i k : ℕ) → code ≡ drop a image → a + i ≡ k → byte code i ≡ byte image k
-code-byte image code a i k e h = ap (λ (l : List ℕ). byte l i) e ∙ get_or-drop a image i 0 ∙ ap (byte image) h
+            met (permits-on k op h t) u ∙ passes t (next op n e)
+            ∙ ap₂ (λ (s t : ℕ). carry (passed e) (onward image program m p op s t n (depth_of e))) (sym (y ∙ at (p + 1))) (sym (w ∙ at (p + 2)))

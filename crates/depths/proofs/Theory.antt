@@ -1,13 +1,10 @@
 -- The search for the fewest assignment, for any analysis: what a visit keeps, and what holds at the end.
-use Rattle.std.proofs.Common.{◌≡◌, ℕ, zero, suc, ◌+◌, ◌<◌, ◌≤◌, ◌⊎◌, List, length, get_or, set, replicate, sym, refl, ap, ◌∙◌, subst, inl, inr, not-suc-le-zero, arith, length-set, get_or-set_other, get_or-set_same, below_more}
+use Rattle.std.proofs.Common.{◌≡◌, ℕ, zero, suc, ◌+◌, ◌<◌, ◌≤◌, ◌⊎◌, List, length, get_or, set, replicate, sym, refl, ap, ◌∙◌, subst, inl, inr, not-suc-le-zero, arith, length-set, get_or-set_other, get_or-set_same, below_more, Option, Some, None}
 use native.Mathlib.Decide.{ℕ_discrete}
 use lib.ListN.{get_or-eq_default, length-replicate}
 use Rattle.mcode.specs.declared.Flow.{Flow}
 use Rattle.mcode.specs.declared.Flow.TheVariants.{Fault, Ends, To, Fork}
-use Rattle.depths.specs.declared.Visit.{Visit}
-use Rattle.depths.specs.declared.Visit.TheVariants.{Clash, Tail}
 use Rattle.depths.specs.declared.Turn.{Turn}
-use Rattle.depths.specs.declared.Turn.TheVariants.{Stop, Next}
 use Rattle.mcode.specs.Depths.{Analysis, mark, Marked, Follows, Fits, Fewest, NoneFits}
 use Rattle.mcode.proofs.Tests.{inside}
 use Rattle.depths.specs.Queue.{Implied, Grows, Queue, Entered, Visited, Stepped, Headed, Advanced}
@@ -55,7 +52,7 @@ module _ (A : Analysis) where
   implied-follows p d r i m F = subst (λ (x : ℕ). Follows A m (A.flow p x)) (i m F) (F.follows p (is-mark m p d r (i m F)))
 
   module _ (m w : List ℕ) (h t : ℕ) (Q : Queue A m w h t) (q d : ℕ) (imp : Implied A q d) (r : d ≡ A.none → ⊥) where
-    pub visit-clash : (m' w' : List ℕ) → Visited A.none m w t q d Clash m' w' → NoneFits A
+    pub visit-clash : (m' w' : List ℕ) → Visited A.none m w t q d None m' w' → NoneFits A
     visit-clash m' w' (inl out) n F = r (sym (imp n F) ∙ get_or-eq_default n A.none (omega (arith, F.sized, Q.sized)))
     visit-clash m' w' (inr c) n F = c.2 (sym (Q.implied q c.1 n F) ∙ imp n F)
 
@@ -118,7 +115,7 @@ module _ (A : Analysis) where
       }
 
     -- a visit that finds no clash moves the search on, and leaves the mark
-    pub visit-tail : ((p e : ℕ) → Real A.none (A.flow p e)) → (t' : ℕ) (m' w' : List ℕ) → Visited A.none m w t q d (Tail t') m' w'
+    pub visit-tail : ((p e : ℕ) → Real A.none (A.flow p e)) → (t' : ℕ) (m' w' : List ℕ) → Visited A.none m w t q d (Some t') m' w'
         → Moved A m w h t m' w' t' × (mark A m' q ≡ d)
     visit-tail real t' m' w' D = go D.1
       where
@@ -175,28 +172,28 @@ module _ (A : Analysis) where
     pub turn-ends : At Ends → Queue A m w (h + 1) t × Grows A m m
     turn-ends e = turned real m w h t Q lt Ends e m w t (stay real m w h t Q lt Ends e) tt
 
-    pub turn-to : (q d : ℕ) → At (To q d) → (v : Visit) (m' w' : List ℕ) → Visited A.none m w t q d v m' w' → Stepped A (h + 1) m v m' w'
-    turn-to q d e Clash m' w' D = visit-clash m w h t Q q d (asked real m w h t Q lt (To q d) e) (real-at (To q d) e) m' w' D
-    turn-to q d e (Tail t') m' w' D =
+    pub turn-to : (q d : ℕ) → At (To q d) → (v : Option ℕ) (m' w' : List ℕ) → Visited A.none m w t q d v m' w' → Stepped A (h + 1) m v m' w'
+    turn-to q d e None m' w' D = visit-clash m w h t Q q d (asked real m w h t Q lt (To q d) e) (real-at (To q d) e) m' w' D
+    turn-to q d e (Some t') m' w' D =
         let (M, k) = visit-tail m w h t Q q d (asked real m w h t Q lt (To q d) e) (real-at (To q d) e) real t' m' w' D in
         turned real m w h t Q lt (To q d) e m' w' t' M k
 
-    pub turn-fork-clash : (q d r g : ℕ) → At (Fork q d r g) → (m' w' : List ℕ) → Visited A.none m w t q d Clash m' w' → NoneFits A
+    pub turn-fork-clash : (q d r g : ℕ) → At (Fork q d r g) → (m' w' : List ℕ) → Visited A.none m w t q d None m' w' → NoneFits A
     turn-fork-clash q d r g e m' w' D =
         visit-clash m w h t Q q d (λ n F. (asked real m w h t Q lt (Fork q d r g) e n F).0) (real-at (Fork q d r g) e).0 m' w' D
 
     -- the first way of a fork was visited: the queue stands at the same turn
-    pub turn-fork-first : (q d r g : ℕ) → At (Fork q d r g) → (s : ℕ) (m₁ w₁ : List ℕ) → Visited A.none m w t q d (Tail s) m₁ w₁
+    pub turn-fork-first : (q d r g : ℕ) → At (Fork q d r g) → (s : ℕ) (m₁ w₁ : List ℕ) → Visited A.none m w t q d (Some s) m₁ w₁
         → Moved A m w h t m₁ w₁ s × (mark A m₁ q ≡ d)
     turn-fork-first q d r g e s m₁ w₁ D =
         visit-tail m w h t Q q d (λ n F. (asked real m w h t Q lt (Fork q d r g) e n F).0) (real-at (Fork q d r g) e).0 real s m₁ w₁ D
 
-    pub turn-fork : (q d r g : ℕ) → At (Fork q d r g) → (s : ℕ) (m₁ w₁ : List ℕ) → Visited A.none m w t q d (Tail s) m₁ w₁
-        → (v : Visit) (m' w' : List ℕ) → Visited A.none m₁ w₁ s r g v m' w' → Stepped A (h + 1) m v m' w'
-    turn-fork q d r g e s m₁ w₁ D Clash m' w' D' =
+    pub turn-fork : (q d r g : ℕ) → At (Fork q d r g) → (s : ℕ) (m₁ w₁ : List ℕ) → Visited A.none m w t q d (Some s) m₁ w₁
+        → (v : Option ℕ) (m' w' : List ℕ) → Visited A.none m₁ w₁ s r g v m' w' → Stepped A (h + 1) m v m' w'
+    turn-fork q d r g e s m₁ w₁ D None m' w' D' =
         let (M, k) = turn-fork-first q d r g e s m₁ w₁ D in
         visit-clash m₁ w₁ h s M.queue r g (λ n F. (asked real m w h t Q lt (Fork q d r g) e n F).1) (real-at (Fork q d r g) e).1 m' w' D'
-    turn-fork q d r g e s m₁ w₁ D (Tail t') m' w' D' =
+    turn-fork q d r g e s m₁ w₁ D (Some t') m' w' D' =
         let (M, k) = turn-fork-first q d r g e s m₁ w₁ D in
         let (N, j) = visit-tail m₁ w₁ h s M.queue r g (λ n F. (asked real m w h t Q lt (Fork q d r g) e n F).1) (real-at (Fork q d r g) e).1 real t' m' w' D' in
         turned real m w h t Q lt (Fork q d r g) e m' w' t' (moved-trans m w h t m₁ w₁ s m' w' t' M N)
@@ -238,11 +235,11 @@ module _ (A : Analysis) where
   -- entry i is visited
   module _ (m w : List ℕ) (t i : ℕ) (Q : Queue A m w 0 t) (E : Entered A m i) (l : i < A.entries)
       (reals : (k : ℕ) → k < A.entries → A.entry_mark k ≡ A.none → ⊥) where
-    pub enter-clash : (m' w' : List ℕ) → Visited A.none m w t (A.entry_at i) (A.entry_mark i) Clash m' w' → NoneFits A
+    pub enter-clash : (m' w' : List ℕ) → Visited A.none m w t (A.entry_at i) (A.entry_mark i) None m' w' → NoneFits A
     enter-clash m' w' D = visit-clash m w 0 t Q (A.entry_at i) (A.entry_mark i) (λ n F. F.enters i l) (reals i l) m' w' D
 
     pub enter-tail : ((p e : ℕ) → Real A.none (A.flow p e)) → (t' : ℕ) (m' w' : List ℕ)
-        → Visited A.none m w t (A.entry_at i) (A.entry_mark i) (Tail t') m' w' → Queue A m' w' 0 t' × Entered A m' (i + 1)
+        → Visited A.none m w t (A.entry_at i) (A.entry_mark i) (Some t') m' w' → Queue A m' w' 0 t' × Entered A m' (i + 1)
     enter-tail real t' m' w' D =
         let (M, k) = visit-tail m w 0 t Q (A.entry_at i) (A.entry_mark i) (λ n F. F.enters i l) (reals i l) real t' m' w' D in (
           M.queue,
@@ -259,28 +256,24 @@ module _ (A : Analysis) where
   in-queue m w h t Q l = (omega (arith, Q.room), inside A m (get_or w h 0) (Q.marked h l))
 
   -- a step, and then the turn of the queue's head
-  pub headed : (h : ℕ) (m m' w' : List ℕ) (s : ℕ) → Queue A m' w' h s × Grows A m m' → (r : Turn) → Headed A.none m' w' h s r → Advanced A h m r m' w'
-  headed h m m' w' s S Stop e = absurd e
-  headed h m m' w' s S (Next t p d) (e, f) = rw e (S.0, S.1, f)
+  pub headed : (h : ℕ) (m m' w' : List ℕ) (s : ℕ) → Queue A m' w' h s × Grows A m m' → (r : Turn) → Headed A.none m' w' h s r → Advanced A h m (Some r) m' w'
+  headed h m m' w' s S r (e, f) = rw e (S.0, S.1, f)
 
   -- a position that was queued at t is there
-  pub queued : (m w : List ℕ) (t q d s : ℕ) (m' w' : List ℕ) → Visited A.none m w t q d (Tail s) m' w' → s ≤ length w → t < s → (get_or w' t 0 ≡ q) × (mark A m' q ≡ d)
+  pub queued : (m w : List ℕ) (t q d s : ℕ) (m' w' : List ℕ) → Visited A.none m w t q d (Some s) m' w' → s ≤ length w → t < s → (get_or w' t 0 ≡ q) × (mark A m' q ≡ d)
   queued m w t q d s m' w' D l h = go D.1
     where
       go : ((mark A m q ≡ A.none) × (m' ≡ set m q d) × (w' ≡ set w t q) × (s ≡ t + 1)) ⊎ ((mark A m q ≡ d) × (m' ≡ m) × (w' ≡ w) × (s ≡ t)) → (get_or w' t 0 ≡ q) × (mark A m' q ≡ d)
       go (inl v) = rw (v.1, v.2) (get_or-set_same w t q 0 (omega arith), get_or-set_same m q d A.none D.0)
       go (inr v) = absurd (let z : ⊥ = omega (arith, v.3) in z)
 
-  -- the search between two turns: no assignment fits, or the queue's head is the position whose turn is next
+  -- the search between two turns: the queue's head is the position whose turn is next
   abbrev pub Going : List ℕ → List ℕ → ℕ → Turn → Type 0
-  Going m w h Stop = NoneFits A
-  Going m w h (Next t p d) = Queue A m w h t × Entered A m A.entries × (h < t → (get_or w h 0 ≡ p) × (mark A m p ≡ d))
+  Going m w h r = Queue A m w h r.tail × Entered A m A.entries × (h < r.tail → (get_or w h 0 ≡ r.position) × (mark A m r.position ≡ r.found))
 
   pub first-going : (m w : List ℕ) (h t : ℕ) → Queue A m w h t → Entered A m A.entries → (r : Turn) → Headed A.none m w h t r → Going m w h r
-  first-going m w h t Q E Stop e = absurd e
-  first-going m w h t Q E (Next s p d) (e, f) = rw e (Q, E, f)
+  first-going m w h t Q E r (e, f) = rw e (Q, E, f)
 
   pub more-going : (h : ℕ) (m m' w' : List ℕ) → ((k : ℕ) → k < A.entries → A.entry_mark k ≡ A.none → ⊥) → Entered A m A.entries
-      → (r : Turn) → Advanced A h m r m' w' → Going m' w' h r
-  more-going h m m' w' reals E Stop n = n
-  more-going h m m' w' reals E (Next s p d) (Q, g, f) = (Q, entered-grows m m' A.entries reals g E, f)
+      → (r : Turn) → Advanced A h m (Some r) m' w' → Going m' w' h r
+  more-going h m m' w' reals E r (Q, g, f) = (Q, entered-grows m m' A.entries reals g E, f)

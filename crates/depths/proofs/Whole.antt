@@ -1,18 +1,16 @@
 -- The walk of the test over the modules of a lent map: what is tested so far, one module more, and what each test decides.
-use Rattle.std.proofs.Common.{◌≡◌, ℕ, ◌+◌, ◌-◌, ◌<◌, ◌≤◌, Bool, true, false, eqb, ltb, leb, List, length, sym, refl, ap, ◌∙◌, subst, not-suc-le-zero, arith, below_more, ltb-true, le-ltb, lt-ltb, le-leb, leb-true}
+use Rattle.std.proofs.Common.{◌≡◌, ℕ, ◌+◌, ◌-◌, ◌<◌, ◌≤◌, Bool, true, false, eqb, ltb, leb, List, length, sym, refl, ◌∙◌, subst, not-suc-le-zero, arith, below_more, ltb-true, le-ltb, lt-ltb, le-leb, leb-true}
 use mathlib.Core.Bool.{false≢true}
 use native.Mathlib.Decide.{dec_lt, ℕ_discrete}
 use Rattle.mcode.specs.declared.Module.{Module}
 use Rattle.mcode.specs.declared.Program.{Program}
 use Rattle.mcode.specs.Word.{and, or, all_below}
 use Rattle.mcode.specs.Image.{module_of, in_code}
-use Rattle.mcode.specs.Depths.{Analysis, unmarked as none, depths, entry, marks_of, fits, map_fits}
+use Rattle.mcode.specs.Depths.{unmarked as none, depths, entry, marks_of, fits, map_fits}
 use Rattle.mcode.specs.Layout.{Told}
 use Rattle.mcode.proofs.Tests.{refuted, and_both, both-and, first-or, second-or, or-second, all-at, at_all, any_at, at-any}
-use Rattle.depths.specs.Lent.{depths_of, Copied}
 use Rattle.depths.specs.Test.{clear, unmarked}
 use Rattle.depths.proofs.Parts.{part}
-use Rattle.depths.proofs.Same.{depths-same}
 
 -- module k's code lies from `from` up to `to`
 abbrev pub from : Program → ℕ → ℕ
@@ -32,10 +30,9 @@ part_fits image program map k = fits (depths image program (module_of program k)
 abbrev byte_fits : Program → List ℕ → ℕ → Bool
 byte_fits program map i = or (in_code program i) (eqb (entry map i) none)
 
--- module k's test, as it is made of what is lent: of the bytes from `at` up to its code, and of its part
-abbrev pub module_fits : List ℕ → Program → List ℕ → List ℕ → List ℕ → ℕ → ℕ → Bool
-module_fits image program map procs tables k at =
-    and (unmarked map at (from program k)) (fits (depths_of image program.count procs tables (module_of program k)) (marks_of map (module_of program k)))
+-- module k's test: of the bytes from `at` up to its code, and of its part
+abbrev pub module_fits : List ℕ → Program → List ℕ → ℕ → ℕ → Bool
+module_fits image program map k at = and (unmarked map at (from program k)) (part_fits image program map k)
 
 -- the first k modules fit, and so does all before position `at`
 pub record Tested (image : List ℕ) (program : Program) (map : List ℕ) (k at : ℕ) : Type 0 where
@@ -132,21 +129,15 @@ module _ (image : List ℕ) (program : Program) (map : List ℕ) where
         far i h (no x) (yes y) = clear-fits program map at i (omega arith) (all-at (from program k) (clear map at) u i y)
         far i h (no x) (no y) = first-or (in_code program i) (eqb (entry map i) none) (in-code program k i l (omega arith) h)
 
-    module _ (procs tables : List ℕ) (C : Copied program procs tables) (l : k < program.count) where
-      same : fits (depths_of image program.count procs tables (module_of program k)) (marks_of map (module_of program k)) ≡ part_fits image program map k
-      same = ap (λ (A : Analysis). fits A (marks_of map (module_of program k))) (depths-same image program procs tables C (module_of program k))
+    pub module-fails : k < program.count → module_fits image program map k at ≡ false → map_fits image program map ≡ false
+    module-fails l e = go (unmarked map at (from program k)) refl
+      where
+        go : (t : Bool) → unmarked map at (from program k) ≡ t → map_fits image program map ≡ false
+        go true t = part-fails l (rw t at e)
+        go false t = gap-fails l t
 
-      pub module-fails : module_fits image program map procs tables k at ≡ false → map_fits image program map ≡ false
-      module-fails e = go (unmarked map at (from program k)) refl
-        where
-          go : (t : Bool) → unmarked map at (from program k) ≡ t → map_fits image program map ≡ false
-          go true t = part-fails l (sym same ∙ (rw t at e))
-          go false t = gap-fails l t
-
-      pub module-passes : module_fits image program map procs tables k at ≡ true → Tested image program map (k + 1) (to program k)
-      module-passes e =
-          let (u, p) = and_both (unmarked map at (from program k)) _ e in
-          more-tested l u (sym same ∙ p)
+    pub module-passes : k < program.count → module_fits image program map k at ≡ true → Tested image program map (k + 1) (to program k)
+    module-passes l e = let (u, p) = and_both (unmarked map at (from program k)) _ e in more-tested l u p
 
     -- the bytes after the last code decide
     pub rest-decides : k ≡ program.count → (b : Bool) → b ≡ unmarked map at (length image) → b ≡ map_fits image program map

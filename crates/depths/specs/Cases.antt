@@ -1,22 +1,25 @@
 -- The cases in which the code takes the rules of an instruction. mcode's specs/Depths.antt has the rules, and every function's contract
 -- says what it answers by them.
-use Rattle.std.specs.Prelude.{ℕ, zero, suc, ◌+◌, ◌-◌, Bool, false, List, [], ◌∷◌, ◌==◌, nat_le, nat_lt, slice_index, slice_index_or}
-use Rattle.mcode.specs.Word.{pick, and, or}
+use Rattle.std.specs.Prelude.{ℕ, zero, suc, ◌+◌, ◌-◌, ◌*◌, Bool, false, List, [], ◌∷◌, ◌==◌, nat_le, nat_lt, slice_index, slice_index_or, Option, Some, None}
+use Rattle.mcode.specs.Word.{pick, and, or, byte}
 use Rattle.mcode.specs.Opcode.{lengths, takens, lefts}
+use Rattle.mcode.specs.declared.Module.{Module}
 use Rattle.mcode.specs.Depths.{depth_of, passed, names_module}
-use Rattle.depths.specs.declared.rules.Row.{Row}
-use Rattle.depths.specs.declared.rules.Row.TheVariants.{Unfit, Next}
 
 -- the row of op at position p of a code of `size` bytes, with mark k: the tests of `depth_flow` in its order, but for the first one, of
 -- an opcode that is not listed
-unfoldable pub row_at : ℕ → ℕ → ℕ → ℕ → Row
+unfoldable pub row_at : ℕ → ℕ → ℕ → ℕ → Option (ℕ × ℕ)
 row_at op p k size =
     let taken = slice_index_or takens op 0 in
     let e = depth_of k - taken + slice_index_or lefts op 0 in
-    pick (nat_lt size (p + slice_index lengths op)) Unfit
-    (pick (nat_lt (depth_of k) taken) Unfit
-    (pick (nat_lt 16 e) Unfit
-    (Next (p + slice_index lengths op) (passed k e))))
+    pick (nat_lt size (p + slice_index lengths op)) None
+    (pick (nat_lt (depth_of k) taken) None
+    (pick (nat_lt 16 e) None
+    (Some (p + slice_index lengths op, passed k e))))
+
+-- byte k of the record of procedure i, 0 where the module has none
+abbrev pub record_byte : List ℕ → Module → ℕ → ℕ → ℕ
+record_byte image m i k = pick (m.procs == 0) 0 (byte image (m.table + 4 * i + k))
 
 -- the cases of `onward`: a jump, an instruction with no successor, and one whose only successor is the next one
 abbrev pub jumping : ℕ → Bool

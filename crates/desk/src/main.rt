@@ -4,28 +4,21 @@
 // says why.
 #![tactic(auto)]
 
-use console::files::Filled;
-use console::{files, print};
+use console::files::read_from;
+use console::print::{Reading, Teller, put_reading, refused};
 use in_place::reading::reading;
 use listing::streams::Streams;
-use mcode::Ending;
 
 // The reading of an image.
-fn put_reading(streams: Streams, image: &[u8]) {
+fn put_image(streams: Streams, image: &[u8]) {
     let mut map = [0u32; 16384];
     let mut store = [0u16; 4096];
     let mut outputs = [0u16; 16];
     let inputs = [0u16; 16];
     let ran = reading(image, &mut map, &mut store, &mut outputs, &inputs, 1000);
-    let ending = ran.ending;
-    match ending {
-        Ending::Refused(number) => {
-            print::refused(streams, number);
-        }
-        Ending::Stopped(stop) => {
-            let machine = ran.machine;
-            print::reading(streams, stop, ran.count, machine, outputs);
-        }
+    match ran.ending {
+        Ok(stop) => put_reading(streams, Reading::new(stop, ran.count, ran.machine, outputs)),
+        Err(refusal) => refused(streams, refusal.number()),
     }
 }
 
@@ -35,12 +28,13 @@ fn main(rt: HostRuntime) {
         output: rt.stdout(),
         error: rt.stderr(),
     };
+    let teller = Teller {
+        streams,
+        program: "desk",
+    };
     let mut input = streams.input;
-    let mut image = [0u8; 65536];
-    match files::read_from(streams, b"desk", b"standard input", &mut input, &mut image) {
-        Filled::Failed => {}
-        Filled::Bytes(n) => {
-            put_reading(streams, &image[..n]);
-        }
+    let mut buffer = [0u8; 65536];
+    if let Some(image) = read_from(teller, b"standard input", &mut input, &mut buffer) {
+        put_image(streams, image);
     }
 }

@@ -3,5 +3,7 @@ pub mod Numbers
 pub mod Closed
 pub mod Composed
 pub mod Turns
-pub mod Advancing
+pub mod Lines
+pub mod Stretches
+pub mod Looping
 pub mod Trapping

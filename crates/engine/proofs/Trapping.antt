@@ -1,14 +1,15 @@
 -- A turn of the loop that catches traps: what was attempted, and its trap that is caught, or the stop. Assumes nothing.
-use mathlib.Core.Path.{◌≡◌, refl, sym, ap, ap₂, ◌∙◌}
+use mathlib.Core.Path.{◌≡◌, refl, sym, ap, ◌∙◌, subst}
 use mathlib.Core.Logic.{◌⊎◌, inl, inr, ⊎_elim}
-use mathlib.Core.List.{List}
 use Prim.Native.Nat.{ℕ, suc, ◌+◌, ◌-◌, ◌≤◌, ◌<◌}
 use native.Mathlib.Omega.{arith}
+use mathlib.Core.List.{List}
 use lib.ListN.{length}
 use lib.Bits.{bit_or}
+use Rattle.std.specs.Prelude.{Some, Ok, Err}
 use Rattle.mcode.specs.Machine.{State, Live, live, OutcomeOf, go, halt, leaving}
 use Rattle.mcode.specs.Step.{Lent, attempt_of, is_caught, trapped, attempt_read}
-use Rattle.mcode.specs.Run.{RunEnd, Tally, tally, tallied, after, run_n, lent_to, attempt_tally, step_tally}
+use Rattle.mcode.specs.Run.{Tally, tally, tallied, after, run_n, attempt_tally, step_tally}
 use Rattle.mcode.specs.Demands.{Preserves}
 use Rattle.mcode.specs.declared.Stop.{Stop}
 use Rattle.mcode.specs.declared.Stop.TheVariants.{Spent}
@@ -16,125 +17,121 @@ use Rattle.mcode.proofs.Compose as compose
 use Rattle.mcode.proofs.Tallies.{tallied-halts}
 use Rattle.mcode.proofs.Traps.{step-traps, tally-traps, tallies-follow}
 use Rattle.mcode.proofs.Points.{preserves}
-use Rattle.actions.specs.declared.Stepped.{Stepped}
+use Rattle.actions.specs.declared.Core.{Core}
 use Rattle.actions.specs.Core.{Left, left_by, held, result_of}
 use Rattle.actions.specs.Table.{Anchored}
 use Rattle.control.specs.Table.{Mapped}
 use Rattle.control.specs.Frames.{Framed}
 use Rattle.execute.proofs.Fits.{asks_of}
-use Rattle.execute.proofs.Went.{Stopped, stop-most, went_on, stopped}
-use Rattle.engine.specs.declared.steps.Advanced.{Advanced}
-use Rattle.engine.specs.Stops.{stop_of}
-use Rattle.engine.specs.Loops.{Ready, advanced_to, Advances}
-use Rattle.engine.proofs.Turns.{stop-back, names, near, still, ready_on}
+use Rattle.execute.proofs.Went.{Stopped, went_on, stopped}
+use Rattle.engine.specs.declared.steps.Stepping.{Stepping}
+use Rattle.engine.specs.Loops.{Keeps, lent_by, held_by, live_at, tally_at, ended_at, Advances}
+use Rattle.engine.proofs.Turns.{near, still, ready_on, keeps_on, same_lent}
 
 -- spent is no trap
 not-spent : (lent : Lent) (x : State) → trapped lent Spent x ≡ halt Spent
 unfolding trapped is_caught
 not-spent lent x = refl
 
-module _ (image table map inputs : List ℕ) (left : ℕ) (x : Tally Live) (a : Advanced) (st so ou : List ℕ) (c : ℕ)
-    (A : Advances (attempt_tally (lent_to image map inputs)) left x a (advanced_to a st so ou c)) (n : a.stop ≡ 0 → ⊥)
-    (R : Ready image table map (length so) (length ou) (length inputs) a.core st) where
+module _ (a m : Stepping) (k : Stop) (A : Advances attempt_tally a (Err k) m) where
   abbrev lent : Lent
-  lent = lent_to image map inputs
-
-  abbrev k : Stop
-  k = stop_of a.stop a.code
+  lent = lent_by a
 
   abbrev here : State
-  here = held a.core st so ou
+  here = held_by m
 
   abbrev at : Live
-  at = live here a.requests
+  at = live_at m
 
   abbrev y : Tally Live
-  y = tally at c
+  y = tally_at m
 
   -- what catching asks
-  pub trap-asks : Mapped table map × (Framed table (length so) a.core × (Anchored table a.core × ((a.stop < 65536) × (32 ≤ length so) × (a.core.pc - a.core.start < 65536))))
+  pub trap-asks : Mapped m.table.now m.map.now × (Framed m.table.now (length m.store.now) m.core × (Anchored m.table.now m.core × ((32 ≤ length m.store.now) × (m.core.pc - m.core.start < 65536))))
   trap-asks =
-      let P = R.prepared in
-      let B = asks_of image table map (length so) P st a.core R.good R.anchored in
-      let m = near R in
-      (B.mapped, (B.controls.framed, (R.anchored, (omega (arith, stop-most k, (A.names n).0), P.roomy, omega (arith, m)))))
+      let P = A.ready.prepared in
+      let B = asks_of m.image.now m.table.now m.map.now (length m.store.now) P m.stack m.core A.ready.good A.ready.anchored in
+      let n = near A.ready in
+      (B.mapped, (B.controls.framed, (A.ready.anchored, (P.roomy, omega (arith, n)))))
 
   -- the run is one of steps up to there
-  follows : run_n (step_tally lent) left x ≡ after (left - a.left) (run_n (step_tally lent) (left - (left - a.left)) y)
-  follows = rw (← A.stops n) at (tallies-follow lent left x)
+  follows : run_n (step_tally lent) a.left (tally_at a) ≡ after (a.left - m.left) (run_n (step_tally lent) (a.left - (a.left - m.left)) y)
+  follows = rw (← A.leads.1) at (tallies-follow lent a.left (tally_at a))
 
   abbrev Found : Type 0
-  Found = ((k ≡ Spent) × (a.left ≡ 0)) ⊎ ((1 ≤ a.left) × (attempt_of lent at ≡ halt k))
+  Found = ((k ≡ Spent) × (m.left ≡ 0)) ⊎ ((1 ≤ m.left) × (attempt_of lent at ≡ halt k))
 
   -- and there it is spent, or the next attempt finds the stop
   finds : Found
   finds =
-      ⊎_elim (λ q. inl (q.0, omega (arith, q.1, A.most))) (λ q. inr (omega (arith, q.0), tallied-halts (bit_or c (attempt_read lent at)) (attempt_of lent at) k q.1)) (rw (← A.stops n) at (compose.run_ends (attempt_tally lent) left x))
+      ⊎_elim (λ q. inl (q.0, omega (arith, q.1, A.leads.0))) (λ q. inr (omega (arith, q.0), tallied-halts (bit_or m.taken (attempt_read lent at)) (attempt_of lent at) k q.1))
+      (rw (← A.leads.1) at (compose.run_ends (attempt_tally lent) a.left (tally_at a)))
 
-  module _ (t : Stepped) (st' so' : List ℕ) (T : result_of t st' so' ou ≡ left_by (held a.core st so ou) (trapped (lent_to image map inputs) (stop_of a.stop a.code) (held a.core st so ou))) (anchored : Anchored table t.core) where
-    abbrev there : State
-    there = held t.core st' so' ou
+  -- a trap that is caught: what was attempted found it, since spent is answered as spent
+  module _ (q : Core) (stack store out : List ℕ) (T : result_of m.core (Ok q) stack store out ≡ left_by (held_by m) (trapped (lent_by m) k (held_by m))) where
+    went : trapped (lent_by m) k here ≡ go (held q stack store out)
+    went = went_on here (trapped (lent_by m) k here) _ T refl
 
-    -- spent is answered as spent
-    spends : k ≡ Spent → result_of t st' so' ou ≡ record { stop = 30; code = 0; state = here }
-    spends s = T ∙ ap (left_by here) (ap (λ (j : Stop). trapped lent j here) s ∙ not-spent lent here)
+    caught : (1 ≤ m.left) × (attempt_of lent at ≡ halt k)
+    caught = by finds
+      where
+        by : Found → (1 ≤ m.left) × (attempt_of lent at ≡ halt k)
+        by (inl (s, e)) = cc (sym (not-spent (lent_by m) here) ∙ ap (λ (j : Stop). trapped (lent_by m) j here) (sym s) ∙ went)
+        by (inr (l, e)) = (l, e)
 
-    module _ (z : t.stop ≡ 0) where
-      went : trapped lent k here ≡ go there
-      went = went_on here (trapped lent k here) (result_of t st' so' ou) T z
+    pub trap-some : 1 ≤ m.left
+    trap-some = caught.0
 
-      caught : (1 ≤ a.left) × (trapped lent k here ≡ go there) × (attempt_of lent at ≡ halt k)
-      caught = by finds
-        where
-          by : Found → (1 ≤ a.left) × (trapped lent k here ≡ go there) × (attempt_of lent at ≡ halt k)
-          by (inl (s, e)) = absurd (let c : ⊥ = omega (arith, z, ap (λ (l : Left). l.stop) (spends s)) in c)
-          by (inr (l, e)) = (l, went, e)
-
-      pub trap-some : 1 ≤ a.left
-      trap-some = caught.0
-
-      pub trap-goes : let b : Advanced = record { stop = 0; code = 0; left = a.left - 1; requests = a.requests; core = t.core } in Advances (step_tally lent) left x b (advanced_to b st' so' ou c)
-      trap-goes =
-          let (l, g, h) = caught in
-          let e : step_tally lent y ≡ go (tally (live there a.requests) c) = tally-traps lent at c k h ∙ ap (λ (o : OutcomeOf State). tallied c (leaving a.requests o)) g in
-          let q : left - (left - a.left) ≡ suc (a.left - 1) = omega (arith, A.most, l) in
-          let d : left - a.left + 1 ≡ left - (a.left - 1) = omega (arith, A.most, l) in
+  module _ (b : Stepping) (K : Keeps m b) (h : Anchored m.table.now b.core) (w : b.requests ≡ m.requests) (u : b.taken ≡ m.taken) where
+    module _ (T : result_of m.core (Ok b.core) b.stack b.store.now b.outputs.now ≡ left_by (held_by m) (trapped (lent_by m) k (held_by m))) where
+      pub trap-goes : b.left ≡ m.left - 1 → Advances step_tally a (Ok tt) b
+      unfolding Preserves
+      trap-goes f =
+          let (l, o) = caught b.core b.stack b.store.now b.outputs.now T in
+          let gone = went b.core b.stack b.store.now b.outputs.now T in
+          let g : trapped lent k here ≡ go (held_by b) = subst (λ (j : Lent). trapped j k here ≡ go (held_by b)) (same_lent A.keeps) gone in
+          let o' : attempt_of (lent_by m) at ≡ halt k = subst (λ (j : Lent). attempt_of j at ≡ halt k) (sym (same_lent A.keeps)) o in
+          let e : step_tally lent y ≡ go (tally (live (held_by b) m.requests) m.taken) = tally-traps lent at m.taken k o ∙ ap (λ (o : OutcomeOf State). tallied m.taken (leaving m.requests o)) g in
+          let q : a.left - (a.left - m.left) ≡ suc b.left = omega (arith, A.leads.0, l, f) in
+          let d : a.left - m.left + 1 ≡ a.left - b.left = omega (arith, A.leads.0, l, f) in
           record {
-            most = omega (arith, A.most);
-            goes = λ f. (omega (arith, A.most, l), (rw q at follows) ∙ ap (after (left - a.left)) (compose.run-go (step_tally lent) (a.left - 1) y _ e) ∙ compose.after-after (left - a.left) 1 _ ∙ ap (λ (m : ℕ). after m (run_n (step_tally lent) (a.left - 1) (tally (live there a.requests) c))) d);
-            stops = λ f. absurd (f refl);
-            names = λ f. absurd (f refl);
+            leads = (
+              omega (arith, A.leads.0, l, f),
+              rw (w, u)
+                  ((rw q at follows) ∙ ap (after (a.left - m.left)) (compose.run-go (step_tally lent) b.left y _ e) ∙ compose.after-after (a.left - m.left) 1 _
+                  ∙ ap (λ (n : ℕ). after n (run_n (step_tally lent) b.left (tally (live (held_by b) m.requests) m.taken))) d),
+            );
+            ready = ready_on K A.ready h (preserves (lent_by m) A.ready.prepared.fits at (live (held_by b) m.requests) A.ready.good A.ready.outputs (step-traps (lent_by m) at k o' ∙ ap (leaving m.requests) gone));
+            keeps = keeps_on A.keeps K;
           }
 
-      pub trap-keeps : Ready image table map (length so') (length ou) (length inputs) t.core st'
-      unfolding Preserves
-      trap-keeps = ready_on t.core st' so' ou R anchored (preserves lent R.prepared.fits at (live there a.requests) R.good R.outputs (step-traps lent at k caught.2 ∙ ap (leaving a.requests) caught.1))
+    -- a stop that nothing catches stays the stop
+    module _ (j : Stop) (T : result_of m.core (Err j) b.stack b.store.now b.outputs.now ≡ left_by (held_by m) (trapped (lent_by m) k (held_by m))) (c : b.core ≡ m.core) where
+      fails : Stopped here (trapped lent k here) (record { stop = Some j; state = held m.core b.stack b.store.now b.outputs.now })
+      fails =
+          stopped here (trapped lent k here) _
+          (subst (λ (i : Lent). ◌≡◌ {A = Left} (record { stop = Some j; state = held m.core b.stack b.store.now b.outputs.now }) (left_by here (trapped i k here))) (same_lent A.keeps) T) (λ z. cc z)
 
-    module _ (m : t.stop ≡ 0 → ⊥) where
-      fails : Stopped here (trapped lent k here) (result_of t st' so' ou)
-      fails = stopped here (trapped lent k here) (result_of t st' so' ou) T m
+      halts : trapped lent k here ≡ halt j
+      halts = let p : Some j ≡ Some fails.why = fails.stop in let i : fails.why ≡ j = cc in fails.halts ∙ ap halt i
 
-      stop : stop_of t.stop t.code ≡ fails.why
-      stop = ap₂ stop_of fails.number fails.code ∙ stop-back fails.why
+      same : held_by b ≡ here
+      same = ap (λ (r : Core). held r b.stack b.store.now b.outputs.now) c ∙ fails.same
 
-      ends : ◌≡◌ {A = RunEnd (Tally Live)} (record { stop = stop_of t.stop t.code; count = left - a.left; state = y }) (after (left - a.left) (run_n (step_tally lent) (left - (left - a.left)) y))
+      ends : ended_at j (a.left - m.left) y ≡ after (a.left - m.left) (run_n (step_tally lent) (a.left - (a.left - m.left)) y)
       ends = by finds
         where
-          by : Found → ◌≡◌ {A = RunEnd (Tally Live)} (record { stop = stop_of t.stop t.code; count = left - a.left; state = y }) (after (left - a.left) (run_n (step_tally lent) (left - (left - a.left)) y))
+          by : Found → ended_at j (a.left - m.left) y ≡ after (a.left - m.left) (run_n (step_tally lent) (a.left - (a.left - m.left)) y)
           by (inl (s, e)) =
-              ap (λ (l : Left). record { stop = stop_of l.stop l.code; count = left - a.left; state = y }) (spends s)
-              ∙ ap (λ (j : Stop). record { stop = j; count = left - a.left; state = y }) (stop-back Spent) ∙ compose.spent (step_tally lent) left (left - a.left) y (omega (arith, e))
+              let p : halt Spent ≡ halt j = sym (not-spent lent here) ∙ ap (λ (i : Stop). trapped lent i here) (sym s) ∙ halts in
+              let i : j ≡ Spent = cc in
+              rw i (compose.spent (step_tally lent) a.left (a.left - m.left) y (omega (arith, e)))
           by (inr (l, e)) =
-              ap (λ (j : Stop). record { stop = j; count = left - a.left; state = y }) stop
-              ∙ compose.found (step_tally lent) left (left - a.left) y fails.why (omega (arith, l, A.most)) (tally-traps lent at c k e ∙ ap (λ (o : OutcomeOf State). tallied c (leaving a.requests o)) fails.halts)
+              compose.found (step_tally lent) a.left (a.left - m.left) y j (omega (arith, l, A.leads.0)) (tally-traps lent at m.taken k e ∙ ap (λ (o : OutcomeOf State). tallied m.taken (leaving m.requests o)) halts)
 
-      pub trap-stops : let b : Advanced = record { stop = t.stop; code = t.code; left = a.left; requests = a.requests; core = t.core } in Advances (step_tally lent) left x b (advanced_to b st' so' ou c)
-      trap-stops = record {
-        most = A.most;
-        goes = λ f. absurd (m f);
-        stops = λ f. ap (λ (u : State). record { stop = stop_of t.stop t.code; count = left - a.left; state = tally (live u a.requests) c }) fails.same ∙ ends ∙ sym follows;
-        names = λ f. names fails.why fails.number fails.code;
+      pub trap-stops : b.left ≡ m.left → Advances step_tally a (Err j) b
+      trap-stops f = record {
+        leads = (omega (arith, f, A.leads.0), rw (f, same, w, u) (ends ∙ sym follows));
+        ready = still K same h A.ready;
+        keeps = keeps_on A.keeps K;
       }
-
-      pub trap-still : Ready image table map (length so') (length ou) (length inputs) t.core st'
-      trap-still = still fails.same anchored R

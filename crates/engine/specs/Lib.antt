@@ -1,5 +1,4 @@
 pub mod Numbers
-pub mod Stops
 pub mod Judged
 pub mod Loops
 pub mod Ran

@@ -5,5 +5,4 @@ pub mod judge;
 pub mod run;
 pub mod session;
 mod steps;
-pub mod stops;
 mod table;

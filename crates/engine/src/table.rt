@@ -28,11 +28,8 @@ pub fn table_of(program: Program) -> [u16; TABLE_WORDS]
     let mut table = [0u16; TABLE_WORDS];
     let n = program.count;
     table[0] = n as u16;
-    let mut k: usize = 0;
-    while k < n {
-        let m = program.modules[k];
-        put_module(&mut table, k, m);
-        k += 1;
+    for k in 0..n {
+        put_module(&mut table, k, program.modules[k]);
     }
     table
 }

@@ -10,12 +10,14 @@ use native.Mathlib.Omega.{arith}
 use borrow.Author.Tests.{ne_eqb, eqb-true, eqb-false, ltb-true}
 use Rattle.mcode.proofs.Tests.{all-at, and_both}
 use Rattle.mcode.specs.Word.{pick, and, or, all_below}
+use Rattle.std.specs.Prelude.{Some}
+use Rattle.mcode.specs.declared.Stop.TheVariants.{Spent}
 use Rattle.mcode.specs.Opcode.{lengths, takens, lefts}
 use Rattle.mcode.specs.Depths.{names_module}
 use Rattle.mcode.specs.Image.{most_modules, proc_count}
 use Rattle.mcode.specs.Step.{Lent, instruction_of, read_of}
 use Rattle.actions.specs.declared.Core.{Core}
-use Rattle.actions.specs.Core.{instruction, performed, spent_op, left_by, held, read_at, unites, operand_at}
+use Rattle.actions.specs.Core.{Stepped, instruction, performed, spent_op, left_by, held, read_at, unites, operand_at}
 use Rattle.actions.specs.Table.{module_in, Lends, Anchored, Needs}
 use Rattle.control.specs.Frames.{Roomy}
 use Rattle.rows_high.specs.Rows.{Stacked}
@@ -47,8 +49,8 @@ pub read_is : {image table map inputs : List ℕ} {lent : Lent} (r : Core) (stac
 read_is r stack store out h a = rw (h.image, h.tabled.modules r.unit a.few, ← a.start, place a.own)
 
 -- an instruction of another row than READ's takes none
-pub takes_none : (op k : ℕ) (r : Core) (stack : List ℕ) (stop w : ℕ) → op / 16 ≡ k → eqb k 10 ≡ false → w ≡ unites stop w (read_at op r stack)
-takes_none op k r stack stop w row n = no_read op r stack stop w (λ e. eqb-false k 10 n (let q : k ≡ 10 = omega (arith, row, e) in q))
+pub takes_none : (op k : ℕ) (r : Core) (stack : List ℕ) (q : Stepped) (w : ℕ) → op / 16 ≡ k → eqb k 10 ≡ false → w ≡ unites q w (read_at op r stack)
+takes_none op k r stack q w row n = no_read op r stack q w (λ e. eqb-false k 10 n (let q : k ≡ 10 = omega (arith, row, e) in q))
 
 -- ---- the rows that take and leave the same for each opcode: 0, 6 and 7, by one computed test of the table
 abbrev is_even : ℕ → Bool
@@ -172,6 +174,6 @@ module _ {image table map : List ℕ} {w : ℕ} {r : Core} (a : Asks image table
   turn_is {lent = lent} stack store out n h listed = go (eqb n 0)
     where
       go : (spent : Bool) → performed lent (pick spent spent_op (opcode_at image r)) (operand_at image r) r stack store out
-          ≡ pick spent (record { stop = 30; code = 0; state = held r stack store out }) (left_by (held r stack store out) (instruction_of lent (held r stack store out)))
+          ≡ pick spent (record { stop = Some Spent; state = held r stack store out }) (left_by (held r stack store out) (instruction_of lent (held r stack store out)))
       go true = refl
       go false = sym (performed-as lent _ _ _ _ _ _ (listed-not-spent listed)) ∙ step_is r stack store out h a.anchored

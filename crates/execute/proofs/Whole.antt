@@ -1,31 +1,29 @@
 -- The step of a whole machine: what its turn asks, what it leaves, the channel that it takes, what the trap of that asks, and that the place
 -- it leaves is a position. Assumes nothing.
-use mathlib.Core.Path.{◌≡◌, refl, sym, ap, ◌∙◌, subst}
+use mathlib.Core.Path.{◌≡◌, refl, ap, ◌∙◌}
 use mathlib.Core.Bool.{true}
 use mathlib.Core.List.{List}
 use Prim.Native.Nat.{ℕ, ◌-◌, ◌≤◌, ◌<◌}
 use lib.ListN.{get_or, length}
 use native.Mathlib.Omega.{arith}
-use borrow.Author.Tests.{ne_eqb}
+use Rattle.std.specs.Prelude.{Ok, Err}
 use Rattle.mcode.specs.Opcode.{lengths}
 use Rattle.mcode.specs.Image.{most_modules, parse}
-use Rattle.mcode.specs.Machine.{State, state, Outcome, go, halt, handled, stop_number, is_machine, machine}
+use Rattle.mcode.specs.Machine.{State, state, Outcome, go, halt, handled, is_machine, machine}
 use Rattle.mcode.specs.Step.{Lent, instruction_of, trapped, quiet_of, read_of, completed, quiet_read}
 use Rattle.mcode.specs.Run.{lent_to}
 use Rattle.mcode.specs.declared.Machine.{Machine}
 use Rattle.mcode.specs.declared.Registers.{Registers}
 use Rattle.mcode.proofs.Standing.{good_of}
-use Rattle.mcode.proofs.Points.{instruction-preserves, quiet-preserves}
+use Rattle.mcode.proofs.Points.{quiet-preserves}
 use Rattle.actions.specs.declared.Core.{Core}
-use Rattle.actions.specs.declared.Stepped.{Stepped}
-use Rattle.actions.specs.Core.{Left, left_by, shown, held, result_of, read_at, unites}
+use Rattle.actions.specs.Core.{Left, Stepped, left_by, shown, held, result_of, read_at, unites}
 use Rattle.actions.specs.Table.{Lends, Anchored}
 use Rattle.control.specs.Table.{Mapped}
 use Rattle.control.specs.Frames.{Framed}
 use Rattle.execute.specs.Stepping.{Asks, Prepared, opcode_at, turned}
 use Rattle.execute.proofs.Fits.{asks_of, listed_of}
 use Rattle.execute.proofs.Laws.{read_is}
-use Rattle.execute.proofs.Went.{a-stop, stop-most}
 
 pub lends : {image table map : List ℕ} {w : ℕ} (inputs : List ℕ) → Prepared image table map w → Lends image table map inputs (lent_to image map inputs)
 lends inputs P = record { image = refl; tabled = P.tabled; map = refl; inputs = refl }
@@ -48,18 +46,27 @@ module _ {image table map : List ℕ} {w : ℕ} (P : Prepared image table map w)
     after-step inputs store out f = rw same at (f (lent_to image map inputs) (lends inputs P))
 
     -- the word of channels, which was 0 before the turn
-    pub channel-step : {l : Left} {u : ℕ} (inputs store out : List ℕ) → l ≡ left_by (state m store out) (instruction_of (lent_to image map inputs) (state m store out))
-        → u ≡ unites l.stop 0 (read_at (opcode_at image r) r m.stack) → u ≡ quiet_read (lent_to image map inputs) (state m store out)
-    channel-step {l} {u} inputs store out e d = d ∙ ap (unites l.stop 0) bits ∙ by (instruction_of (lent_to image map inputs) (state m store out)) e
+    pub channel-step : (q : Stepped) {u : ℕ} (inputs store out st so uo : List ℕ) → result_of r q st so uo ≡ left_by (state m store out) (instruction_of (lent_to image map inputs) (state m store out))
+        → u ≡ unites q 0 (read_at (opcode_at image r) r m.stack) → u ≡ quiet_read (lent_to image map inputs) (state m store out)
+    channel-step q {u} inputs store out st so uo e d = d ∙ ap (unites q 0) bits ∙ by q (instruction_of (lent_to image map inputs) (state m store out)) e
       where
         bits : read_at (opcode_at image r) r m.stack ≡ read_of (lent_to image map inputs) (state m store out)
         bits =
             read_is r m.stack store out (lends inputs P) anchored
             ∙ ap (λ (g : Registers). read_of (lent_to image map inputs) (state (machine g m.stack) store out)) same
 
-        by : (o : Outcome) → l ≡ left_by (state m store out) o → unites l.stop 0 (read_of (lent_to image map inputs) (state m store out)) ≡ completed (read_of (lent_to image map inputs) (state m store out)) o
-        by (go y) f = rw f refl
-        by (halt k) f = rw (f, ne_eqb (stop_number k) 0 (a-stop k)) refl
+        by : (q : Stepped) (o : Outcome) → result_of r q st so uo ≡ left_by (state m store out) o → unites q 0 (read_of (lent_to image map inputs) (state m store out)) ≡ completed (read_of (lent_to image map inputs) (state m store out)) o
+        by (Ok p) (go y) f = refl
+        by (Ok p) (halt k) f = cc (ap (λ (a : Left). a.stop) f)
+        by (Err k) (go y) f = cc (ap (λ (a : Left). a.stop) f)
+        by (Err k) (halt j) f = refl
+
+    -- what settling the instruction's answer asks, in a store of the same length
+    pub asks-settle : (n : ℕ) → n ≡ w → Mapped table map × Framed table n r × (32 ≤ n) × (r.pc - r.start < 65536)
+    asks-settle n e =
+        let A = asks-step.0 in
+        let p : r.pc - r.start ≡ m.registers.pc.0 = ap (λ (g : Registers). g.pc.0) same in
+        rw e (A.mapped, A.controls.framed, P.roomy, omega (arith, p, pc-near))
 
 -- what a step leaves is a machine again, and a stop leaves all as it was
 module _ {image table map : List ℕ} (inputs : List ℕ) (x : State) (P : Prepared image table map (length x.store))
@@ -74,25 +81,11 @@ module _ {image table map : List ℕ} (inputs : List ℕ) (x : State) (P : Prepa
   kept (go y) k e = rw e (k y refl)
   kept (halt j) k e = rw e (good, refl, outs)
 
-  few : (o : Outcome) {l : Left} → l ≡ left_by x o → l.stop < 65536
-  few (go y) e = rw e (omega arith)
-  few (halt j) e = rw e (omega (arith, stop-most j))
-
-  -- what settling the instruction's answer asks
-  pub asks-settle : {s : Stepped} {st so out : List ℕ} → result_of s st so out ≡ left_by x (instruction_of lent x) → Anchored table s.core
-      → Mapped table map × (Framed table (length so) s.core × (Anchored table s.core × ((s.stop < 65536) × (32 ≤ length so) × (s.core.pc - s.core.start < 65536))))
-  asks-settle {s} {st} {so} {out} e a =
-      let (g, w, o) = kept (instruction_of lent x) (λ y i. instruction-preserves lent P.fits x good outs y i) e in
-      let Q : Prepared image table map (length so) = subst (λ (n : ℕ). Prepared image table map n) (sym w) P in
-      let A = asks_of image table map (length so) Q st s.core g a in
-      let n = pc-near Q (machine (shown s.core) st) g in
-      (A.mapped, (A.controls.framed, (a, (few (instruction_of lent x) e, Q.roomy, omega (arith, n)))))
-
-  pub settled-step : (s t : Stepped) {st so st' so' out : List ℕ} → result_of s st so out ≡ left_by x (instruction_of lent x)
-      → ((lent : Lent) (bytes words : List ℕ) → Lends bytes table map words lent → (y : State) (o : Outcome) (out : List ℕ) → result_of s st so out ≡ left_by y o → result_of t st' so' out ≡ left_by y (handled (λ k. trapped lent k y) o))
-      → result_of t st' so' out ≡ left_by x (quiet_of lent x)
+  pub settled-step : (r : Core) (s t : Stepped) (st so st' so' out : List ℕ) → result_of r s st so out ≡ left_by x (instruction_of lent x)
+      → ((lent : Lent) (bytes words : List ℕ) → Lends bytes table map words lent → (y : State) (o : Outcome) (out : List ℕ) → result_of r s st so out ≡ left_by y o → result_of r t st' so' out ≡ left_by y (handled (λ k. trapped lent k y) o))
+      → result_of r t st' so' out ≡ left_by x (quiet_of lent x)
   unfolding quiet_of
-  settled-step s t {out = out} e f = f lent image inputs (lends inputs P) x (instruction_of lent x) out e
+  settled-step r s t st so st' so' out e f = f lent image inputs (lends inputs P) x (instruction_of lent x) out e
 
   pub near-after : {l : Left} → l ≡ left_by x (quiet_of lent x) → l.state.machine.registers.pc.0 ≤ 32767
   near-after {l} e =

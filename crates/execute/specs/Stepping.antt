@@ -1,11 +1,12 @@
 -- What a step asks of the place where the registers stand, and what a turn of the stepping loop leaves.
-use Rattle.std.specs.Prelude.{◌≡◌, true, List, ℕ, ◌≤◌, ◌<◌, get_or, length, eqb}
+use Rattle.std.specs.Prelude.{Some, ◌≡◌, true, List, ℕ, ◌≤◌, ◌<◌, get_or, length, eqb}
 use Rattle.mcode.specs.Word.{pick}
 use Rattle.mcode.specs.Opcode.{lengths}
 use Rattle.mcode.specs.Image.{parse}
 use Rattle.mcode.specs.Layout.{Told}
 use Rattle.mcode.specs.Depths.{front_of, names_module, entry, map_fits}
 use Rattle.mcode.specs.Machine.{State, state}
+use Rattle.mcode.specs.declared.Stop.TheVariants.{Spent}
 use Rattle.mcode.specs.Step.{Lent, instruction_of}
 use Rattle.actions.specs.declared.Core.{Core}
 use Rattle.actions.specs.Core.{Left, left_by, operand_at, spent_op}
@@ -44,8 +45,8 @@ chosen_op n op = pick (eqb n 0) spent_op op
 
 -- "30 spent"; else a step of the definition
 abbrev pub turned : Lent → ℕ → State → Left
-turned lent n x = pick (eqb n 0) (record { stop = 30; code = 0; state = x }) (left_by x (instruction_of lent x))
+turned lent n x = pick (eqb n 0) (record { stop = Some Spent; state = x }) (left_by x (instruction_of lent x))
 
 -- what the step of a machine by value answered, with what it left behind its references
 abbrev pub answered : Next → List ℕ → List ℕ → Left
-answered q store out = record { stop = q.stop; code = q.code; state = state q.machine store out }
+answered q store out = record { stop = q.stop; state = state q.machine store out }

@@ -4,7 +4,7 @@
 ghost use Rattle.std.specs.Prelude.{◌≡◌, ◌≤◌, length, get_or};
 ghost use Rattle.mcode.specs.Opcode.{lengths};
 ghost use Rattle.mcode.specs.Step.{Lent};
-ghost use Rattle.actions.specs.Core.{held, result_of, performed, read_at, unites, operand_at};
+ghost use Rattle.actions.specs.Core.{after, held, result_of, performed, read_at, unites, operand_at};
 ghost use Rattle.actions.specs.Table.{Anchored, Lends};
 ghost use Rattle.execute.specs.Stepping.{Asks, opcode_at, chosen_op, turned};
 
@@ -37,7 +37,7 @@ fn perform(
 ) -> Stepped
     requires asks { Asks image.now table.now map.now (length store.old) op r }
     requires inputs_len { (length inputs.now ≡ 16) × (length outputs.old ≡ 16) }
-    ensures { ((lent : Lent) → Lends image.now table.now map.now inputs.now lent → result_of result stack.new store.new outputs.new ≡ performed lent op (operand_at image.now r) r stack.old store.old outputs.old) × (taken.new ≡ unites result.stop taken.old (read_at op r stack.old)) × Anchored table.now result.core }
+    ensures { ((lent : Lent) → Lends image.now table.now map.now inputs.now lent → result_of r result stack.new store.new outputs.new ≡ performed lent op (operand_at image.now r) r stack.old store.old outputs.old) × (taken.new ≡ unites result taken.old (read_at op r stack.old)) × Anchored table.now (after r result) }
 {
     match op / 16 {
         0 => row0(op, r, stack),
@@ -82,7 +82,7 @@ pub fn turn(
 ) -> Stepped
     requires asks { Asks image.now table.now map.now (length store.old) (opcode_at image.now r) r }
     requires bound { (1 ≤ get_or lengths (opcode_at image.now r) 0) × (length inputs.now ≡ 16) × (length outputs.old ≡ 16) }
-    ensures { ((lent : Lent) → Lends image.now table.now map.now inputs.now lent → result_of result stack.new store.new outputs.new ≡ turned lent left (held r stack.old store.old outputs.old)) × (taken.new ≡ unites result.stop taken.old (read_at (chosen_op left (opcode_at image.now r)) r stack.old)) × Anchored table.now result.core }
+    ensures { ((lent : Lent) → Lends image.now table.now map.now inputs.now lent → result_of r result stack.new store.new outputs.new ≡ turned lent left (held r stack.old store.old outputs.old)) × (taken.new ≡ unites result taken.old (read_at (chosen_op left (opcode_at image.now r)) r stack.old)) × Anchored table.now (after r result) }
 {
     let i = r.pc;
     let op = chosen(left, image[i]);

@@ -6,7 +6,7 @@ ghost use Rattle.mcode.specs.Machine as M;
 ghost use Rattle.mcode.specs.Machine.{State, is_machine, state, Outcome, handled};
 ghost use Rattle.mcode.specs.Step.{Lent, trapped, quiet_of, quiet_read};
 ghost use Rattle.mcode.specs.Run.{lent_to};
-ghost use Rattle.actions.specs.Core.{shown, result_of, left_by};
+ghost use Rattle.actions.specs.Core.{after, shown, result_of, left_by};
 ghost use Rattle.actions.specs.Table.{Anchored, Lends};
 ghost use Rattle.control.specs.Table.{Mapped};
 ghost use Rattle.control.specs.Frames.{Framed};
@@ -16,14 +16,12 @@ use crate::turn;
 use actions::{Core, Stepped, TABLE_WORDS};
 use control::table::number;
 use control::transfer::catch_trap;
-use mcode::{Address, Machine, Position, Registers};
+use mcode::{Address, Machine, Position, Registers, Stop};
 
-// What a step leaves: 0 and the machine after it, or a stop with its code and the machine as it was; and the bit of the input channel that
-// it took, or 0.
+// What a step leaves: the machine after it, or a stop and the machine as it was; and the bit of the input channel that it took, or 0.
 #[derive(Clone, Copy)]
 pub struct Next {
-    pub stop: u32,
-    pub code: u16,
+    pub stop: Option<Stop>,
     pub machine: Machine,
     pub channels: u16,
 }
@@ -34,29 +32,18 @@ pub fn core_of(registers: Registers, table: &[u16; TABLE_WORDS]) -> Core
     ensures { (shown result ≡ registers) × Anchored table.now result }
 {
     let k = registers.unit as usize;
-    let at = registers.pc.0 as usize;
-    let depth = registers.depth;
     let start = number(table, k, 1) as usize;
-    let pc = start + at;
-    let unit = registers.unit as u16;
-    let base = number(table, k, 4);
-    let g = Address(base);
-    let l = registers.l;
-    let s = registers.s;
-    let h = registers.h;
-    let p = registers.p;
-    let mask = registers.mask;
     Core {
-        pc,
-        depth,
+        pc: start + registers.pc.0 as usize,
+        depth: registers.depth,
         start,
-        unit,
-        g,
-        l,
-        s,
-        h,
-        p,
-        mask,
+        unit: registers.unit as u16,
+        g: Address(number(table, k, 4)),
+        l: registers.l,
+        s: registers.s,
+        h: registers.h,
+        p: registers.p,
+        mask: registers.mask,
     }
 }
 
@@ -65,30 +52,22 @@ pub fn machine_of(r: Core, stack: [u16; 16]) -> Machine
     requires { (r.unit < most_modules) × (r.start ≤ r.pc) × (r.pc - r.start ≤ 32767) }
     ensures { result ≡ M.machine (shown r) stack }
 {
-    let unit = r.unit as u8;
-    let place = (r.pc - r.start) as u16;
-    let pc = Position(place);
-    let l = r.l;
-    let s = r.s;
-    let h = r.h;
-    let p = r.p;
-    let mask = r.mask;
-    let depth = r.depth;
     let registers = Registers {
-        unit,
-        pc,
-        l,
-        s,
-        h,
-        p,
-        mask,
-        depth,
+        unit: r.unit as u8,
+        pc: Position((r.pc - r.start) as u16),
+        l: r.l,
+        s: r.s,
+        h: r.h,
+        p: r.p,
+        mask: r.mask,
+        depth: r.depth,
     };
     Machine { registers, stack }
 }
 
 // What an instruction answered, or what its trap does.
 fn settle(
+    r: Core,
     s: Stepped,
     table: &[u16; TABLE_WORDS],
     map: &[u32],
@@ -96,16 +75,15 @@ fn settle(
     store: &mut [u16],
 ) -> Stepped
     requires mapped { Mapped table.now map.now }
-    requires framed { Framed table.now (length store.old) s.core }
-    requires anchored { Anchored table.now s.core }
-    requires stop_bound { (s.stop < 65536) × (32 ≤ length store.old) × (s.core.pc - s.core.start < 65536) }
-    ensures { ((lent : Lent) (bytes words : List ℕ) → Lends bytes table.now map.now words lent → (x : State) (o : Outcome) (out : List ℕ) → result_of s stack.old store.old out ≡ left_by x o → result_of result stack.new store.new out ≡ left_by x (handled (λ k. trapped lent k x) o)) × Anchored table.now result.core }
+    requires framed { Framed table.now (length store.old) r }
+    requires anchored { (Anchored table.now r) × Anchored table.now (after r s) }
+    requires stop_bound { (32 ≤ length store.old) × (r.pc - r.start < 65536) }
+    ensures { ((lent : Lent) (bytes words : List ℕ) → Lends bytes table.now map.now words lent → (x : State) (o : Outcome) (out : List ℕ) → result_of r s stack.old store.old out ≡ left_by x o → result_of r result stack.new store.new out ≡ left_by x (handled (λ k. trapped lent k x) o)) × Anchored table.now (after r result) }
 {
-    if s.stop == 0 {
-        return s;
+    match s {
+        Ok(next) => Ok(next),
+        Err(stop) => catch_trap(r, table, map, stack, store, stop),
     }
-    let r = s.core;
-    catch_trap(r, table, map, stack, store, s.stop, s.code)
 }
 
 // One step. It goes through turn, as the stepping loop does: a program that has one of the two has one copy of the rows.
@@ -131,13 +109,16 @@ pub fn step(
     let s = turn(
         1, r, image, table, map, &mut stack, store, inputs, outputs, &mut taken,
     );
-    let t = settle(s, table, map, &mut stack, store);
-    let core = t.core;
-    let after = machine_of(core, stack);
-    Next {
-        stop: t.stop,
-        code: t.code,
-        machine: after,
-        channels: taken,
+    match settle(r, s, table, map, &mut stack, store) {
+        Ok(next) => Next {
+            stop: None,
+            machine: machine_of(next, stack),
+            channels: taken,
+        },
+        Err(stop) => Next {
+            stop: Some(stop),
+            machine,
+            channels: taken,
+        },
     }
 }

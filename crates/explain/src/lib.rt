@@ -7,65 +7,62 @@ pub mod shown;
 
 ghost use Rattle.std.specs.Prelude.{◌≡◌, ◌<◌};
 ghost use Rattle.mcode.specs.Image.{module_of};
-ghost use Rattle.mcode.specs.Layout.{Told};
 ghost use Rattle.explain.specs.Reason.{fault_there, Reasoned};
 
 use crate::misfit::first_misfit;
-use mcode::{Cause, Program};
+use loader::load::load_program;
+use loader::read::Read;
+use mcode::{Cause, Position, Refusal};
 use walk::causes::cause_at;
 
-// A module, a position in its code and the opcode there, with: the cause of 13; the two marks that meet; a mark that the rules do not
-// allow; such a mark at a call, and the parameters of the procedure that it names.
+// A position in the code of a module, the opcode there, and what is wrong with it.
 #[derive(Clone, Copy)]
-pub enum Why {
-    Unknown,
-    Fault(u8, u16, u8, Cause),
-    Meet(u8, u16, u8, u32, u32),
-    Rule(u8, u16, u8, u32),
-    Call(u8, u16, u8, u32, u8),
+pub struct Why {
+    pub unit: u8,
+    pub pc: Position,
+    pub op: u8,
+    pub wrong: Wrong,
 }
 
-// What is wrong at position p of module k.
-fn fault_at(image: &[u8], program: Program, k: u8, p: u16) -> Why
-    requires told { Told image.now program }
-    requires k_lt_count { (k < program.count) × (p < (module_of program k).length) }
-    ensures { result ≡ fault_there image.now program k p }
+// The cause of 13; the two marks that meet; a mark that the rules do not allow; such a mark at a call, and the parameters of the
+// procedure that it names.
+#[derive(Clone, Copy)]
+pub enum Wrong {
+    Fault(Cause),
+    Meet(u32, u32),
+    Rule(u32),
+    Call(u32, u8),
+}
+
+// What is wrong at position p of module k, if it is at fault.
+fn fault_at(read: &Read, k: u8, p: u16) -> Option<Why>
+    requires { (k < read.now.program.now.count) × (p < (module_of read.now.program.now k).length) }
+    ensures { result ≡ fault_there read.now.image.now read.now.program.now k p }
 {
-    let sizes = mcode::opcode::LENGTH;
-    let kinds = depths::kinds::KIND;
-    let records = depths::records::records_of(program);
-    let procs = records.procs;
-    let n = program.count;
-    let unit = k as usize;
-    let m = program.modules[unit];
-    let at = p as usize;
-    let op = image[m.code + at];
-    let cause = cause_at(image, at, n, &procs, m, &sizes, &kinds);
-    Why::Fault(k, p, op, cause)
+    let code = read.code(k as usize);
+    let cause = cause_at(&code, read.program, p as usize)?;
+    Some(Why {
+        unit: k,
+        pc: Position(p),
+        op: code.bytes[p as usize],
+        wrong: Wrong::Fault(cause),
+    })
 }
 
-// Why load refuses the image with 13 or 8: unknown where it answers something else. The map is lent for the search; what it holds before
+// Why load refuses the image with 13 or 8: None where it answers something else. The map is lent for the search; what it holds before
 // and after does not matter.
-pub fn reason(image: &[u8], map: &mut [u32]) -> Why
+pub fn reason(image: &[u8], map: &mut [u32]) -> Option<Why>
     ensures { Reasoned image.now map.old result }
 {
-    let verdict = loader::load::load(image, map);
-    let number = verdict.number;
-    let pc = verdict.pc;
-    let parsed = image::read_image(image);
-    let refusal = parsed.refusal;
-    if 1 <= refusal {
-        return Why::Unknown;
+    let program = image::read_image(image).ok()?;
+    let refusal = load_program(image, &program, map).err()?;
+    let read = Read {
+        image,
+        program: &program,
+    };
+    match refusal {
+        Refusal::NotWhole(k, pc) => fault_at(&read, k, pc.0),
+        Refusal::NoDepths => first_misfit(&read, map),
+        _ => None,
     }
-    if map.len() < image.len() {
-        return Why::Unknown;
-    }
-    let program = parsed.program;
-    if number == 13 {
-        return fault_at(image, program, verdict.unit, pc.0);
-    }
-    if number == 8 {
-        return first_misfit(image, program, map);
-    }
-    Why::Unknown
 }

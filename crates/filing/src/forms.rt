@@ -1,53 +1,39 @@
 // An image from a file, and its form.
 use console::fault;
-use console::files::{Filled, contents};
+use console::files::contents;
 use console::given::argument;
-use console::print::{Place, refusal};
-use listing::streams::Streams;
+use console::print::Teller;
 use std::rt::{Env, Files};
 
-// The form's length, or 0 where the image is refused, which is told on standard error with its place.
-fn form_or_refusal(
-    streams: Streams,
-    program: &[u8],
+// The form of an image; none where the image is refused, which is told on standard error with its place.
+fn form_or_refusal<'a>(
+    teller: Teller,
     name: &[u8],
     image: &mut [u8],
-    map: &mut [u32],
-    form: &mut [u8],
-) -> usize {
-    let answer = archive::archive(image, map, form);
-    if answer.number != 0 {
-        let place = fault::found(image, map, answer.number);
-        refusal(streams, program, name, answer.number, place);
-    }
-    answer.length
-}
-
-// Reads the file that argument i names, and writes the form of its image. The form's length, or 0 where the file cannot be read or the
-// image is refused, which is told on standard error.
-pub fn form_of(
-    rt: &(impl Env + Files),
-    streams: Streams,
-    program: &[u8],
-    i: usize,
-    bytes: &mut [u8],
-    map: &mut [u32],
-    form: &mut [u8],
-) -> usize {
-    let mut buffer = [0u8; 4096];
-    let length = argument(rt, i, &mut buffer);
-    let name = &buffer[..length];
-    match contents(rt, streams, program, name, bytes) {
-        Filled::Failed => 0,
-        Filled::Bytes(n) => {
-            if 65535 < n {
-                refusal(streams, program, name, 1, Place::Unknown);
-                return 0;
-            }
-            if n <= bytes.len() {
-                return form_or_refusal(streams, program, name, &mut bytes[0..n], map, form);
-            }
-            0
+    form: &'a mut [u8],
+) -> Option<&'a [u8]> {
+    let mut map = [0u32; 65535];
+    match archive::archive(image, &mut map, form) {
+        Ok(length) => form.get(..length),
+        Err(refusal) => {
+            let number = refusal.number();
+            teller.refusal(name, number, fault::found(image, &mut map, number));
+            None
         }
     }
+}
+
+// The form of the image in the file that argument i names; none where the file cannot be read or the image is refused, which is told on
+// standard error.
+pub fn form_of<'a>(
+    rt: &(impl Env + Files),
+    teller: Teller,
+    i: usize,
+    form: &'a mut [u8],
+) -> Option<&'a [u8]> {
+    let mut buffer = [0u8; 4096];
+    let mut bytes = [0u8; 65536];
+    let name = argument(rt, i, &mut buffer);
+    let image = contents(rt, teller, name, &mut bytes)?;
+    form_or_refusal(teller, name, image, form)
 }

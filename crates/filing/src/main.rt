@@ -8,50 +8,84 @@ mod forms;
 mod help;
 mod same;
 
+use console::arguments::Ended;
 use console::given::{argument, count};
-use console::options;
-use console::plain::{Asked, read_arguments};
-use listing::streams::{Streams, fail};
+use console::plain::read_arguments;
+use console::print::Teller;
+use listing::streams::{Streams, fail, write_all};
 use std::rt::{Env, Files};
 
+// What to do.
+#[derive(Clone, Copy)]
+enum Command {
+    Archive,
+    Same,
+}
+
+impl Command {
+    fn called(text: &[u8]) -> Option<Command> {
+        match text {
+            b"archive" => Some(Command::Archive),
+            b"same" => Some(Command::Same),
+            _ => None,
+        }
+    }
+
+    fn name(self) -> &'static str {
+        match self {
+            Command::Archive => "archive",
+            Command::Same => "same",
+        }
+    }
+
+    fn usage(self) -> &'static str {
+        match self {
+            Command::Archive => help::ARCHIVE_USAGE,
+            Command::Same => help::SAME_USAGE,
+        }
+    }
+
+    fn help(self) -> &'static str {
+        match self {
+            Command::Archive => help::ARCHIVE,
+            Command::Same => help::SAME,
+        }
+    }
+
+    // How many arguments there are, with its files.
+    fn count(self) -> usize {
+        match self {
+            Command::Archive => 3,
+            Command::Same => 4,
+        }
+    }
+
+    // Whether its files are given, and no more. Else its help is printed, or what is wrong is told.
+    fn has_files(self, rt: &impl Env, teller: Teller, count: usize) -> bool {
+        let Streams { output, error, .. } = teller.streams;
+        match read_arguments(rt, teller, 2, count) {
+            Ok(()) if count == self.count() => return true,
+            Ok(()) => {
+                write_all(&error, self.usage().as_bytes());
+            }
+            Err(Ended::Help) => {
+                write_all(&output, self.usage().as_bytes());
+                write_all(&output, self.help().as_bytes());
+            }
+            Err(Ended::Bad) => {}
+        }
+        false
+    }
+}
+
 // The form of one image, to standard output.
-fn archive_file(rt: &(impl Env + Files), streams: Streams, i: usize) {
-    let mut bytes = [0u8; 65536];
-    let mut map = [0u32; 65535];
-    let mut form = [0u8; 65536];
-    let length = forms::form_of(rt, streams, b"archive", i, &mut bytes, &mut map, &mut form);
-    if length <= form.len() {
-        if let Err(error) = streams.output.write_all(&form[0..length]) {
-            fail(streams, b"standard output", error);
-        }
-    }
-}
-
-fn run_archive(rt: &(impl Env + Files), streams: Streams, count: usize) {
-    match read_arguments(rt, streams, b"archive", 2, count) {
-        Asked::Help => help::put_archive(streams),
-        Asked::Bad => {}
-        Asked::Files => {
-            if count != 3 {
-                help::put_archive_usage(&streams.error);
-                return;
-            }
-            archive_file(rt, streams, 2);
-        }
-    }
-}
-
-fn run_same(rt: &(impl Env + Files), streams: Streams, count: usize) {
-    match read_arguments(rt, streams, b"same", 2, count) {
-        Asked::Help => help::put_same(streams),
-        Asked::Bad => {}
-        Asked::Files => {
-            if count != 4 {
-                help::put_same_usage(&streams.error);
-                return;
-            }
-            same::compare_files(rt, streams, 2, 3);
-        }
+fn archive_file(rt: &(impl Env + Files), teller: Teller) {
+    let mut buffer = [0u8; 65536];
+    let Some(form) = forms::form_of(rt, teller, 2, &mut buffer) else {
+        return;
+    };
+    if let Err(error) = teller.streams.output.write_all(form) {
+        fail(teller.streams, b"standard output", error);
     }
 }
 
@@ -61,18 +95,21 @@ fn main(rt: HostRuntime) {
         output: rt.stdout(),
         error: rt.stderr(),
     };
-    let count = count(&rt);
     let mut buffer = [0u8; 4096];
-    let n = argument(&rt, 1, &mut buffer);
-    let command = &buffer[..n];
-    if options::same(command, b"archive") {
-        run_archive(&rt, streams, count);
+    let Some(command) = Command::called(argument(&rt, 1, &mut buffer)) else {
+        write_all(&streams.error, help::ARCHIVE_USAGE.as_bytes());
+        write_all(&streams.error, help::SAME_USAGE.as_bytes());
+        return;
+    };
+    let teller = Teller {
+        streams,
+        program: command.name(),
+    };
+    if !command.has_files(&rt, teller, count(&rt)) {
         return;
     }
-    if options::same(command, b"same") {
-        run_same(&rt, streams, count);
-        return;
+    match command {
+        Command::Archive => archive_file(&rt, teller),
+        Command::Same => same::compare_files(&rt, teller),
     }
-    help::put_archive_usage(&streams.error);
-    help::put_same_usage(&streams.error);
 }

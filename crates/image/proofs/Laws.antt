@@ -6,19 +6,19 @@ use native.Mathlib.Omega.{arith}
 use borrow.Author.Tests.{eq-eqb, ne_eqb}
 use lib.ListN.{length, set}
 use Rattle.mcode.specs.declared.Module.{Module}
-use Rattle.mcode.specs.declared.Head.TheVariants.{Read, Refused as NoHead}
-use Rattle.mcode.specs.declared.Part.TheVariants.{Got, Refused}
-use Rattle.mcode.specs.Image.{record_at, records_at, module_at, modules_from, refused_by}
+use Rattle.mcode.specs.Image.{Got, Refused, Read, NoHead, record_at, records_at, module_at, modules_from, refused_by}
 
-pub more-records : (s : List ℕ) (length limit n at v next : ℕ) → 0 < n → record_at s length limit at ≡ Got v next → records_at s length limit n at ≡ records_at s length 16 (n - 1) next
-unfolding records_at
-more-records s length limit zero at v next l e = elim (let z : ⊥ = omega arith in z) [ ]
-more-records s length limit (suc n) at v next l e = let q : suc n - 1 ≡ n = omega arith in rw (q, e) refl
+module _ (s : List ℕ) (length limit : ℕ) where
+  pub more-records : (n i at v next : ℕ) → i < n → record_at s length limit at ≡ Got v next → records_at s length limit (n - i) at ≡ records_at s length 16 (n - (i + 1)) next
+  unfolding records_at
+  more-records n i at v next l e = let q : n - i ≡ suc (n - (i + 1)) = omega arith in rw (q, e) refl
 
-pub unread-record : (s : List ℕ) (length limit n at k : ℕ) → 0 < n → record_at s length limit at ≡ Refused k → records_at s length limit n at ≡ Refused k
-unfolding records_at
-unread-record s length limit zero at k l e = elim (let z : ⊥ = omega arith in z) [ ]
-unread-record s length limit (suc n) at k l e = rw e refl
+  pub unread-record : (n i at k : ℕ) → i < n → record_at s length limit at ≡ Refused k → records_at s length limit (n - i) at ≡ Refused k
+  unfolding records_at
+  unread-record n i at k l e = let q : n - i ≡ suc (n - (i + 1)) = omega arith in rw (q, e) refl
+
+pub first-record : (s : List ℕ) (length limit n at : ℕ) → records_at s length limit n at ≡ records_at s length limit (n - 0) at
+first-record s length limit n at = let q : n - 0 ≡ n = omega arith in rw q refl
 
 module _ (s : List ℕ) where
   pub more-modules : (count i at base : ℕ) (table : List Module) (m : Module) (next : ℕ) → i < count → module_at s i base at ≡ Read m next

@@ -1,43 +1,39 @@
 -- A whole reading, case by case, from what load, start and run ensure. Assumes nothing.
-use mathlib.Core.Path.{◌≡◌, ap, ◌∙◌, subst}
+use mathlib.Core.Path.{◌≡◌, ap, ◌∙◌}
 use mathlib.Core.List.{List}
-use Prim.Native.Nat.{ℕ, ◌≤◌, ◌<◌}
-use borrow.Author.Tests.{le-leb, lt-leb}
+use Prim.Native.Nat.{ℕ}
+use native.Mathlib.Omega.{arith}
+use borrow.Author.Tests.{le-leb}
+use Rattle.std.proofs.Common.{Ok, Err}
+use Rattle.mcode.specs.Answer.{refusal_number, refusal_verdict}
 use Rattle.mcode.specs.Machine.{state, live, zero_machine}
 use Rattle.mcode.specs.Run as Run
-use Rattle.mcode.specs.Run.{RunLeft, refused, run_of, start_of, Loads}
-use Rattle.mcode.specs.declared.Verdict.{Verdict}
+use Rattle.mcode.specs.Run.{RunLeft, verdict, refused, run_of, start_of, Loads}
+use Rattle.mcode.specs.declared.Machine.{Machine}
+use Rattle.mcode.specs.declared.Refusal.{Refusal}
+use Rattle.loader.specs.Begin.{begun}
 use Rattle.loader.proofs.Begin.{start-leaves}
+use Rattle.loader.proofs.Early.{numbered}
+use Rattle.engine.proofs.Closed.{verdict_number}
 use Rattle.in_place.specs.Whole.{reading_of, Reads}
 
-module _ (image before store outputs inputs : List ℕ) (n : ℕ) (v : Verdict) (after : List ℕ) (L : Loads image before v after) where
-  abbrev number : ℕ
-  number = v.number
-
-  pub load-refuses : 1 ≤ number → Reads image before store outputs inputs n (refused number (live (state zero_machine store outputs) 0)) after
+module _ (image before store outputs inputs : List ℕ) (n : ℕ) (after : List ℕ) where
+  pub load-refuses : (k : Refusal) → Loads image before (refusal_verdict k) after → Reads image before store outputs inputs n (refused (refusal_number k) (live (state zero_machine store outputs) 0)) after
   unfolding reading_of
-  load-refuses l = record { verdict = v; loads = L; rest = rw (le-leb 1 number l) }
+  load-refuses k L = record { verdict = refusal_verdict k; loads = L; rest = rw (verdict_number k, le-leb 1 (refusal_number k) (numbered k)) }
 
-  module _ (a : number < 1) (s : Run.Started) (e : s ≡ start_of image store) where
-    pub start-refuses : 1 ≤ s.number → Reads image before store outputs inputs n (refused s.number (live (state zero_machine s.store outputs) 0)) after
+  module _ (L : Loads image before (verdict 0) after) where
+    pub start-refuses : (k : Refusal) (left : List ℕ) → begun (Err k) left ≡ start_of image store → Reads image before store outputs inputs n (refused (refusal_number k) (live (state zero_machine left outputs) 0)) after
     unfolding reading_of
-    start-refuses l =
-        let h : 1 ≤ (start_of image store).number = subst (λ (x : Run.Started). 1 ≤ x.number) e l in
+    start-refuses k left e =
+        let m : refusal_number k ≡ (start_of image store).number = ap (λ (x : Run.Started). x.number) e in
+        let kept : left ≡ store = ap (λ (x : Run.Started). x.store) e ∙ start-leaves image store (omega (arith, m, numbered k)) in
         record {
-          verdict = v;
+          verdict = verdict 0;
           loads = L;
-          rest =
-              ap (λ (x : Run.Started). refused x.number (live (state zero_machine x.store outputs) 0)) e
-              ∙ ap (λ (x : List ℕ). refused (start_of image store).number (live (state zero_machine x outputs) 0)) (start-leaves image store h)
-              ∙ rw (lt-leb 1 number a, le-leb 1 (start_of image store).number h);
+          rest = rw (← m, kept, le-leb 1 (refusal_number k) (numbered k));
         }
 
-    pub run-reads : s.number < 1 → (left : RunLeft) → left ≡ run_of image after inputs n (live (state s.machine s.store outputs) 0) → Reads image before store outputs inputs n left after
+    pub run-reads : (m : Machine) (left : List ℕ) → begun (Ok m) left ≡ start_of image store → (r : RunLeft) → r ≡ run_of image after inputs n (live (state m left outputs) 0) → Reads image before store outputs inputs n r after
     unfolding reading_of
-    run-reads l left q =
-        let h : (start_of image store).number < 1 = subst (λ (x : Run.Started). x.number < 1) e l in
-        record {
-          verdict = v;
-          loads = L;
-          rest = q ∙ ap (λ (x : Run.Started). run_of image after inputs n (live (state x.machine x.store outputs) 0)) e ∙ rw (lt-leb 1 number a, lt-leb 1 (start_of image store).number h);
-        }
+    run-reads m left e r q = record { verdict = verdict 0; loads = L; rest = rw (← e) q }

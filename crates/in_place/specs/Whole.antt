@@ -3,8 +3,7 @@
 use Rattle.std.specs.Prelude.{◌≡◌, ℕ, List, leb}
 use Rattle.mcode.specs.Word.{pick}
 use Rattle.mcode.specs.Machine.{state, live, zero_machine}
-use Rattle.mcode.specs.Run.{RunLeft, refused, run_of, start_of, Loads}
-use Rattle.mcode.specs.declared.Verdict.{Verdict}
+use Rattle.mcode.specs.Run.{Verdict, RunLeft, refused, run_of, start_of, Loads}
 
 -- what is left after load has answered a number and left a map
 unfoldable pub reading_of : ℕ → List ℕ → List ℕ → List ℕ → List ℕ → List ℕ → ℕ → RunLeft

@@ -18,16 +18,11 @@ pub fn reading(
 ) -> Ran
     ensures { Reads image.now map.old store.old outputs.old inputs.now n (answered result store.new outputs.new) map.new }
 {
-    let verdict = load(image, map);
-    let number = verdict.number;
-    if 1 <= number {
-        return refused_with(number, 0);
-    }
-    let started = start(image, store);
-    let refusal = started.number;
-    if 1 <= refusal {
+    if let Err(refusal) = load(image, map) {
         return refused_with(refusal, 0);
     }
-    let machine = started.machine;
-    run(machine, image, map, store, outputs, inputs, n)
+    match start(image, store) {
+        Ok(machine) => run(machine, image, map, store, outputs, inputs, n),
+        Err(refusal) => refused_with(refusal, 0),
+    }
 }

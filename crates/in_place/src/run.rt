@@ -7,17 +7,16 @@ ghost use Rattle.engine.specs.Judged.{Passed};
 ghost use Rattle.engine.specs.Ran.{answered};
 ghost use Rattle.in_place.specs.Placed.{halted_at};
 
-use crate::step::{Halt, step_in_place};
+use crate::step::step_in_place;
 use actions::TABLE_WORDS;
 use engine::judge::judge;
 use engine::run::Ran;
-use engine::stops::stop_of;
-use mcode::{Ending, Machine};
+use mcode::{Machine, Stop};
 
-// Where the stepping loop stopped: the stop with its code, the count of steps, the machine, and the word of the channels that it took.
+// Where the stepping loop stopped: the stop, the count of steps, the machine, and the word of the channels that it took.
 #[derive(Clone, Copy)]
 struct Halted {
-    stop: Halt,
+    stop: Stop,
     count: u32,
     machine: Machine,
     channels: u16,
@@ -42,17 +41,13 @@ fn steps_in_place(
     let mut taken = 0u16;
     let stop = 'desk: loop {
         if n <= count {
-            break 'desk Halt {
-                stop: 30,
-                code: 0,
-                channels: 0,
-            };
+            break 'desk Stop::Spent;
         }
         let h = step_in_place(&mut m, image, table, map, store, inputs, outputs);
-        if h.stop != 0 {
-            break 'desk h;
+        if let Some(stop) = h.stop {
+            break 'desk stop;
         }
-        taken = taken | h.channels;
+        taken |= h.channels;
         count += 1;
     };
     Halted {
@@ -75,34 +70,31 @@ pub fn run(
 ) -> Ran
     ensures { answered result store.new outputs.new ≡ run_of image.now map.now inputs.now n (live (state machine store.old outputs.old) 0) }
 {
-    let judged = judge(
+    match judge(
         machine,
         image,
         map,
         store.len(),
         outputs.len(),
         inputs.len(),
-    );
-    let refusal = judged.refusal;
-    if 1 <= refusal {
-        return Ran {
-            ending: Ending::Refused(refusal),
+    ) {
+        Ok(table) => {
+            let h = steps_in_place(machine, image, &table, map, store, inputs, outputs, n);
+            let last = h.machine;
+            Ran {
+                ending: Ok(h.stop),
+                count: h.count,
+                machine: last,
+                requests: 0,
+                channels: h.channels,
+            }
+        }
+        Err(refusal) => Ran {
+            ending: Err(refusal),
             count: 0,
             machine,
             requests: 0,
             channels: 0,
-        };
-    }
-    let table = judged.table;
-    let h = steps_in_place(machine, image, &table, map, store, inputs, outputs, n);
-    let halt = h.stop;
-    let last = h.machine;
-    let stop = stop_of(halt.stop, halt.code);
-    Ran {
-        ending: Ending::Stopped(stop),
-        count: h.count,
-        machine: last,
-        requests: 0,
-        channels: h.channels,
+        },
     }
 }

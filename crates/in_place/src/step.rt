@@ -10,13 +10,12 @@ ghost use Rattle.execute.specs.Stepping.{Prepared};
 ghost use Rattle.in_place.specs.Placed.{left_at};
 
 use actions::TABLE_WORDS;
-use mcode::Machine;
+use mcode::{Machine, Stop};
 
-// What a step answers: 0 where it went on, or a stop with its code; and the bit of the input channel that it took, or 0.
+// What a step answers: a stop, if it found one; and the bit of the input channel that it took, or 0.
 #[derive(Clone, Copy)]
 pub struct Halt {
-    pub stop: u32,
-    pub code: u16,
+    pub stop: Option<Stop>,
     pub channels: u16,
 }
 
@@ -36,11 +35,10 @@ pub fn step_in_place(
     ensures outputs_after { left_at result machine.new store.new outputs.new ≡ left_by (state machine.old store.old outputs.old) (quiet_of (lent_to image.now map.now inputs.now) (state machine.old store.old outputs.old)) }
     ensures channels_value { result.channels ≡ quiet_read (lent_to image.now map.now inputs.now) (state machine.old store.old outputs.old) }
 {
-    let r = execute::steps::step(*machine, image, table, map, store, inputs, outputs);
-    *machine = r.machine;
+    let next = execute::steps::step(*machine, image, table, map, store, inputs, outputs);
+    *machine = next.machine;
     Halt {
-        stop: r.stop,
-        code: r.code,
-        channels: r.channels,
+        stop: next.stop,
+        channels: next.channels,
     }
 }

@@ -6,93 +6,50 @@ mod code;
 mod help;
 mod show;
 
-use console::files::{Filled, contents};
+use console::arguments::Ended;
+use console::files::contents;
 use console::given::{argument, count};
-use console::plain::{Asked, read_arguments};
-use console::print::{Place, refusal};
-use listing::block::{Block, flush, text};
-use listing::streams::Streams;
+use console::plain::read_arguments;
+use console::print::Teller;
+use listing::page::Page;
+use listing::streams::{Streams, write_all};
+use mcode::Refusal;
 use std::rt::{Env, Files};
 
 // Whether there are files to list, and all arguments are good.
-fn is_asked(rt: &impl Env, streams: Streams, count: usize) -> bool {
-    match read_arguments(rt, streams, b"list", 1, count) {
-        Asked::Help => {
-            help::put_help(streams);
-            return false;
+fn is_asked(rt: &impl Env, teller: Teller, count: usize) -> bool {
+    match read_arguments(rt, teller, 1, count) {
+        Err(Ended::Help) => {
+            help::put_help(teller.streams);
+            false
         }
-        Asked::Files => {}
-        Asked::Bad => {
-            return false;
+        Err(Ended::Bad) => false,
+        Ok(()) if count < 2 => {
+            write_all(&teller.streams.error, help::USAGE.as_bytes());
+            false
         }
+        Ok(()) => true,
     }
-    if count < 2 {
-        help::put_usage(&streams.error);
-        return false;
-    }
-    true
 }
 
-// An image of n bytes. A blank line stands between two listings.
-fn list_bytes(
-    streams: Streams,
-    out: &mut Block,
-    used: &mut usize,
-    i: usize,
-    name: &[u8],
-    image: &mut [u8],
-    n: usize,
-    map: &mut [u32],
-    notes: &mut [u32],
-) {
-    if 65535 < n {
-        refusal(streams, b"list", name, 1, Place::Unknown);
+// The file that an argument names. A blank line stands between two listings.
+fn list_file(rt: &(impl Env + Files), teller: Teller, page: &mut Page, i: usize) {
+    let mut buffer = [0u8; 4096];
+    let name = argument(rt, i, &mut buffer);
+    let mut bytes = [0u8; 65536];
+    let Some(image) = contents(rt, teller, name, &mut bytes) else {
+        return;
+    };
+    if 65535 < image.len() {
+        teller.refusal(name, Refusal::ImageSize.number(), None);
         return;
     }
     if 1 < i {
-        text(streams, out, used, b"\n");
+        page.print("\n");
     }
-    if n <= image.len() {
-        show::put_image(streams, out, used, name, &mut image[0..n], map, notes);
-    }
-}
-
-// The file that an argument names.
-fn list_file(
-    rt: &(impl Env + Files),
-    streams: Streams,
-    out: &mut Block,
-    used: &mut usize,
-    i: usize,
-) {
-    let mut buffer = [0u8; 4096];
-    let length = argument(rt, i, &mut buffer);
-    let name = &buffer[..length];
-    let mut image = [0u8; 65536];
     let mut map = [0u32; 65535];
-    let mut notes = [0u32; 65535];
-    match contents(rt, streams, b"list", name, &mut image) {
-        Filled::Failed => {}
-        Filled::Bytes(n) => list_bytes(
-            streams, out, used, i, name, &mut image, n, &mut map, &mut notes,
-        ),
-    }
-}
-
-// What is listed of a file is written before the next one is read.
-fn list_files(
-    rt: &(impl Env + Files),
-    streams: Streams,
-    count: usize,
-    out: &mut Block,
-    used: &mut usize,
-) {
-    let mut i = 1usize;
-    while i < count {
-        list_file(rt, streams, out, used, i);
-        flush(streams, out, used);
-        i += 1;
-    }
+    let mut notes = [None; 65535];
+    show::put_image(teller, page, name, image, &mut map, &mut notes);
 }
 
 fn main(rt: HostRuntime) {
@@ -101,10 +58,17 @@ fn main(rt: HostRuntime) {
         output: rt.stdout(),
         error: rt.stderr(),
     };
+    let teller = Teller {
+        streams,
+        program: "list",
+    };
     let count = count(&rt);
-    if is_asked(&rt, streams, count) {
-        let mut out = [0u8; 65536];
-        let mut used = 0usize;
-        list_files(&rt, streams, count, &mut out, &mut used);
+    if is_asked(&rt, teller, count) {
+        let mut page = Page::new(streams);
+        // What is listed of a file is written before the next one is read.
+        for i in 1..count {
+            list_file(&rt, teller, &mut page, i);
+            page.flush();
+        }
     }
 }

@@ -1,233 +1,140 @@
 // An image with its modules.
-ghost use Rattle.std.specs.Prelude.{◌≡◌, length};
-
-use crate::code::{put_code, put_columns};
+use crate::code::{COLUMNS, Code};
 use console::fault;
-use console::print::{Place, line_end, refusal, refused_as};
-use explain::{Why, shown};
-use listing::block::{Block, flush, text};
-use listing::print::named;
-use listing::procedure::{Procedure, procedure_of};
-use listing::streams::Streams;
-use mcode::{MOST_MODULES, Module, Program};
+use console::print::{Place, Reason, Teller, line};
+use depths::rules::proc_count;
+use explain::shown::{Note, mark_module};
+use explain::{Why, Wrong};
+use image::read_image;
+use listing::page::Page;
+use listing::procedure::procedure_of;
+use loader::load::load;
+use mcode::{Module, Program};
 
 // The name, the count of bytes, and the count of modules where the image was read.
-fn put_heading(
-    streams: Streams,
-    out: &mut Block,
-    used: &mut usize,
-    name: &[u8],
-    bytes: usize,
-    modules: usize,
-) {
-    text(streams, out, used, name);
-    named(streams, out, used, b": ", bytes as u64);
-    text(streams, out, used, b" bytes");
-    if 0 < modules {
-        named(streams, out, used, b", modules: ", modules as u64);
+fn put_heading(page: &mut Page, name: &[u8], bytes: usize, modules: Option<usize>) {
+    page.text(name);
+    page.print(format_args!(": {bytes} bytes"));
+    if let Some(count) = modules {
+        page.print(format_args!(", modules: {count}"));
     }
-    text(streams, out, used, b"\n");
+    page.print("\n");
 }
 
-fn put_procedure(
-    streams: Streams,
-    out: &mut Block,
-    used: &mut usize,
-    i: u16,
-    procedure: Procedure,
-) {
-    named(streams, out, used, b"  procedure ", i as u64);
-    named(streams, out, used, b": entry ", procedure.entry as u64);
-    named(
-        streams,
-        out,
-        used,
-        b", parameters ",
-        procedure.params as u64,
-    );
-    named(streams, out, used, b", results ", procedure.results as u64);
-    text(streams, out, used, b"\n");
-}
-
-fn put_procedures(streams: Streams, out: &mut Block, used: &mut usize, image: &[u8], m: Module) {
-    let count = depths::rules::proc_count(m);
-    let mut i = 0usize;
-    while i < count {
+fn put_procedures(page: &mut Page, image: &[u8], m: Module) {
+    for i in 0..proc_count(m) {
         let procedure = procedure_of(image, m, i as u16);
-        put_procedure(streams, out, used, i as u16, procedure);
-        i += 1;
-    }
-}
-
-fn put_module_line(streams: Streams, out: &mut Block, used: &mut usize, number: usize, m: Module) {
-    named(streams, out, used, b"\nmodule ", number as u64);
-    named(streams, out, used, b": data size ", m.size as u64);
-    named(streams, out, used, b", base ", m.base as u64);
-    named(streams, out, used, b", code length ", m.length as u64);
-    named(streams, out, used, b" from byte ", m.code as u64);
-    text(streams, out, used, b"\n");
-}
-
-// Notes the place p of module k in the notes of that module's code.
-fn note(notes: &mut [u32], k: usize, unit: u8, p: u16, what: u32) {
-    let at = p as usize;
-    if unit as usize == k {
-        if at < notes.len() {
-            notes[at] = what;
-        }
+        page.print(format_args!(
+            "  procedure {i}: entry {}, parameters {}, results {}\n",
+            procedure.entry, procedure.params, procedure.results
+        ));
     }
 }
 
 // With 8, where the depths do not fit. (What 13 is about is noted by the marks.)
-fn note_why(notes: &mut [u32], k: usize, why: Why) {
-    match why {
-        Why::Unknown => {}
-        Why::Fault(_, _, _, _) => {}
-        Why::Meet(unit, p, _, _, _) => note(notes, k, unit, p, shown::MEET),
-        Why::Rule(unit, p, _, _) => note(notes, k, unit, p, shown::RULE),
-        Why::Call(unit, p, _, _, _) => note(notes, k, unit, p, shown::RULE),
+fn note_why(notes: &mut [Option<Note>], k: usize, why: Why) {
+    let note = match why.wrong {
+        Wrong::Fault(_) => return,
+        Wrong::Meet(_, _) => Note::Meet,
+        Wrong::Rule(_) | Wrong::Call(_, _) => Note::Rule,
+    };
+    let at = why.pc.0 as usize;
+    if why.unit as usize == k && at < notes.len() {
+        notes[at] = Some(note);
     }
 }
 
-// Where load refused, the parts of the map and of the notes are filled with what is shown of module k.
-fn fill(image: &[u8], map: &mut [u32], notes: &mut [u32], k: usize, refused: bool, why: Why) {
-    if refused {
-        shown::mark_module(image, map, notes, k);
-        note_why(notes, k, why);
-    }
+// The part of a map or of notes that belongs to a module's code.
+fn part<T>(all: &mut [T], m: Module) -> Option<&mut [T]> {
+    all.get_mut(m.code..)?.get_mut(..m.length as usize)
 }
 
-// The code of module k by its parts of the map and of the notes.
-fn put_part(
-    streams: Streams,
-    out: &mut Block,
-    used: &mut usize,
+// Where load refused with 13 or 8, the parts of the map and of the notes are filled with what is shown of each module.
+fn note_all(
     image: &[u8],
     map: &mut [u32],
-    notes: &mut [u32],
-    k: usize,
-    m: Module,
-    refused: bool,
-    why: Why,
-)
-    requires { (length map.old ≡ m.length) × (length notes.old ≡ m.length) }
-{
-    fill(image, map, notes, k, refused, why);
-    put_code(streams, out, used, image, m, map, notes);
-}
-
-fn put_module(
-    streams: Streams,
-    out: &mut Block,
-    used: &mut usize,
-    image: &[u8],
-    map: &mut [u32],
-    notes: &mut [u32],
-    k: usize,
-    m: Module,
-    refused: bool,
-    why: Why,
+    notes: &mut [Option<Note>],
+    program: Program,
+    why: Option<Why>,
 ) {
-    put_module_line(streams, out, used, k, m);
-    put_procedures(streams, out, used, image, m);
-    put_columns(streams, out, used);
-    let a = m.code;
+    for (k, m) in program.modules.iter().take(program.count).enumerate() {
+        if let (Some(map), Some(notes)) = (part(map, *m), part(notes, *m)) {
+            mark_module(image, map, notes, k);
+            if let Some(why) = why {
+                note_why(notes, k, why);
+            }
+        }
+    }
+}
+
+// The code of a module by its parts of the map and of the notes.
+fn code_of<'a>(
+    image: &'a [u8],
+    map: &'a [u32],
+    notes: &'a [Option<Note>],
+    m: Module,
+) -> Option<Code<'a>> {
     let length = m.length as usize;
-    if notes.len() != map.len() {
-        return;
-    }
-    if map.len() < a {
-        return;
-    }
-    if map.len() - a < length {
-        return;
-    }
-    let e = a + length;
-    put_part(
-        streams,
-        out,
-        used,
+    Some(Code {
         image,
-        &mut map[a..e],
-        &mut notes[a..e],
-        k,
         m,
-        refused,
-        why,
-    );
+        marks: map.get(m.code..)?.get(..length)?,
+        notes: notes.get(m.code..)?.get(..length)?,
+    })
 }
 
 fn put_modules(
-    streams: Streams,
-    out: &mut Block,
-    used: &mut usize,
+    page: &mut Page,
     image: &[u8],
-    map: &mut [u32],
-    notes: &mut [u32],
+    map: &[u32],
+    notes: &[Option<Note>],
     program: Program,
-    refused: bool,
-    why: Why,
 ) {
-    let mut k = 0usize;
-    while k < MOST_MODULES {
-        if program.count <= k {
-            return;
+    for (k, m) in program.modules.iter().take(program.count).enumerate() {
+        page.print(format_args!(
+            "\nmodule {k}: data size {}, base {}, code length {} from byte {}\n",
+            m.size, m.base, m.length, m.code
+        ));
+        put_procedures(page, image, *m);
+        page.print(COLUMNS);
+        if let Some(code) = code_of(image, map, notes, *m) {
+            code.put(page);
         }
-        let m = program.modules[k];
-        put_module(streams, out, used, image, map, notes, k, m, refused, why);
-        k += 1;
     }
 }
 
 // The refusal, in the place of the modules, and on standard error.
-fn put_refusal(
-    streams: Streams,
-    out: &mut Block,
-    used: &mut usize,
-    name: &[u8],
-    number: u16,
-    place: Place,
-) {
-    if flush(streams, out, used) {
-        refused_as(&streams.output, number, place);
-        line_end(streams);
+fn put_refusal(teller: Teller, page: &mut Page, name: &[u8], reason: Reason) {
+    if page.flush() {
+        line(teller.streams, reason);
     }
-    refusal(streams, b"list", name, number, place);
+    teller.refusal(name, reason.number, reason.place);
 }
 
 // A refusal stands in the place of the modules, but for 13 and 8: there they are shown all the same, as far as the code is reached, with what
 // is wrong.
 pub fn put_image(
-    streams: Streams,
-    out: &mut Block,
-    used: &mut usize,
+    teller: Teller,
+    page: &mut Page,
     name: &[u8],
     image: &mut [u8],
     map: &mut [u32],
-    notes: &mut [u32],
+    notes: &mut [Option<Note>],
 ) {
-    let parsed = image::read_image(image);
-    let program = parsed.program;
-    put_heading(streams, out, used, name, image.len(), program.count);
-    let verdict = loader::load::load(image, map);
-    let number = verdict.number;
-    if number == 0 {
-        put_modules(
-            streams,
-            out,
-            used,
-            image,
-            map,
-            notes,
-            program,
-            false,
-            Why::Unknown,
-        );
-        return;
+    let read = read_image(image).ok();
+    put_heading(page, name, image.len(), read.map(|program| program.count));
+    if let Err(refusal) = load(image, map) {
+        let number = refusal.number();
+        let place = fault::found(image, map, number);
+        put_refusal(teller, page, name, Reason { number, place });
+        let Some(Place::Code(why)) = place else {
+            return;
+        };
+        if let Some(program) = read {
+            note_all(image, map, notes, program, why);
+        }
     }
-    let place = fault::found(image, map, number);
-    put_refusal(streams, out, used, name, number, place);
-    if let Place::Code(why) = place {
-        put_modules(streams, out, used, image, map, notes, program, true, why);
+    if let Some(program) = read {
+        put_modules(page, image, map, notes, program);
     }
 }

@@ -1,16 +1,13 @@
 -- Text of a mark, letter by letter. Assumes nothing.
-use mathlib.Core.Path.{◌≡◌, refl, sym, ◌∙◌}
-use mathlib.Core.List.{List, [], ◌∷◌, ◌++◌, append_assoc, append-nil}
-use Prim.Native.Nat.{ℕ, zero, suc, ◌+◌, ◌-◌, ◌/◌, ◌%◌, ◌≤◌, ◌<◌}
-use native.Mathlib.Omega.{arith}
+use Rattle.std.proofs.Common.{◌≡◌, refl, sym, ◌∙◌, List, [], ◌∷◌, ◌++◌, append_assoc, append-nil, ℕ, suc, ◌+◌, ◌/◌, ◌%◌, ◌≤◌, ◌<◌, arith}
 use borrow.Author.Tests.{lt-ltb, le-ltb, ne_eqb}
 use Rattle.mcode.specs.Depths.{depth_of, promised, saves}
 use Rattle.listing.specs.Cell.{number_text, results_text, saves_text}
 
 -- a number by its digits
-pub one-digit : (t : List ℕ) (n : ℕ) → n < 10 → t ++ ((48 + n) ∷ []) ≡ t ++ number_text n
+pub one-digit : (n : ℕ) → n < 10 → (48 + n % 10) ∷ [] ≡ number_text n
 unfolding number_text
-one-digit t n h = rw (lt-ltb n 10 h) refl
+one-digit n h = let e : n % 10 ≡ n = omega arith in rw (lt-ltb n 10 h, e) refl
 
 pub two_digits : (t : List ℕ) (n : ℕ) → 10 ≤ n → (t ++ ((48 + n / 10) ∷ [])) ++ ((48 + n % 10) ∷ []) ≡ t ++ number_text n
 unfolding number_text
@@ -25,17 +22,13 @@ unfolding results_text
 some-results t n h = rw (ne_eqb n 0 h) (append_assoc t _ _)
 
 -- the saved depths from the front
-pub no-saves : (t : List ℕ) (n l : ℕ) → n ≤ 0 → t ≡ t ++ saves_text n l
+pub no-saves : (t : List ℕ) (l : ℕ) → t ≡ t ++ saves_text 0 l
 unfolding saves_text
-no-saves t zero l h = sym (append-nil t)
-no-saves t (suc n) l h = absurd (let z : ⊥ = omega arith in z)
+no-saves t l = sym (append-nil t)
 
-pub next-save : (t : List ℕ) (n l : ℕ) → 0 < n → ((t ++ (43 ∷ [])) ++ number_text (l % 32)) ++ saves_text (n - 1) (l / 32) ≡ t ++ saves_text n l
+pub next-save : (t : List ℕ) (n l : ℕ) → ((t ++ (43 ∷ [])) ++ number_text (l % 32)) ++ saves_text n (l / 32) ≡ t ++ saves_text (suc n) l
 unfolding saves_text
-next-save t zero l h = absurd (let z : ⊥ = omega arith in z)
-next-save t (suc n) l h =
-    let e : suc n - 1 ≡ n = omega arith in
-    rw e (append_assoc (t ++ (43 ∷ [])) (number_text (l % 32)) (saves_text n (l / 32)) ∙ append_assoc t (43 ∷ []) (number_text (l % 32) ++ saves_text n (l / 32)))
+next-save t n l = append_assoc (t ++ (43 ∷ [])) (number_text (l % 32)) (saves_text n (l / 32)) ∙ append_assoc t (43 ∷ []) (number_text (l % 32) ++ saves_text n (l / 32))
 
 -- each field is small
 pub depth_small : (k : ℕ) → depth_of k < 100

@@ -1,25 +1,14 @@
--- The first number that passes a test: what it is, and the turns of a loop that looks for it. Assumes nothing.
-use mathlib.Core.Path.{◌≡◌, refl, subst}
-use mathlib.Core.Bool.{Bool, true, false}
+-- The first number that passes a test: what it is, and that a search of a range finds it. Assumes nothing.
+use mathlib.Core.Path.{◌≡◌, refl, sym, subst, ◌∙◌}
+use mathlib.Core.Bool.{Bool, true, false, false≢true}
+use Rattle.std.specs.Prelude.{Option, Some, None, MatchOption}
 use Prim.Native.Nat.{ℕ, zero, suc, ◌+◌, ◌-◌, ◌≤◌, ◌<◌}
 use native.Mathlib.Omega.{arith}
 use native.Mathlib.Decide.{dec_lt}
 use Rattle.mcode.specs.Word.{pick}
-use Rattle.listing.specs.First.{first_from, First, IsFirst}
+use Rattle.listing.specs.First.{first_from, First, IsFirst, Found}
 
 module _ (f : ℕ → Bool) where
-  pub first-here : (end i : ℕ) → i < end → f i ≡ true → i ≡ first_from f (end - i) i
-  unfolding first_from
-  first-here end i l e = let q : end - i ≡ suc (end - (i + 1)) = omega arith in rw (q, e) refl
-
-  pub first-later : (end i : ℕ) → i < end → f i ≡ false → first_from f (end - (i + 1)) (i + 1) ≡ first_from f (end - i) i
-  unfolding first_from
-  first-later end i l e = let q : end - i ≡ suc (end - (i + 1)) = omega arith in rw (q, e) refl
-
-  pub first-none : (end i : ℕ) → end ≤ i → i ≡ first_from f (end - i) i
-  unfolding first_from
-  first-none end i l = let q : end - i ≡ zero = omega arith in rw q refl
-
   first-zero : (i : ℕ) → First f zero i (first_from f zero i)
   unfolding first_from
   first-zero i = record { from = omega arith; below = omega arith; before = λ k a b. absurd (let z : ⊥ = omega arith in z); found = λ h. absurd (let z : ⊥ = omega arith in z) }
@@ -51,3 +40,26 @@ module _ (f : ℕ → Bool) where
 pub is-first : IsFirst
 unfolding IsFirst
 is-first f n i = least f n i
+
+-- what a search of the numbers from `from` on and below `end` finds
+module _ (f : ℕ → Bool) (from end at : ℕ) (first : First f (end - from) from at) where
+  none-passes : ((k : ℕ) → from ≤ k → k < end → f k ≡ false) → from + (end - from) ≡ at
+  none-passes none = go (dec_lt at (from + (end - from)))
+    where
+      go : Dec (at < from + (end - from)) → from + (end - from) ≡ at
+      go (yes l) = absurd (false≢true (sym (none at first.from (omega (arith, first.from))) ∙ first.found l))
+      go (no l) = omega (arith, first.below)
+
+  first-passes : (i : ℕ) → from ≤ i → i < end → f i ≡ true → ((k : ℕ) → from ≤ k → k < i → f k ≡ false) → i ≡ at
+  first-passes i a b t before = go (dec_lt i at) (dec_lt at i)
+    where
+      go : Dec (i < at) → Dec (at < i) → i ≡ at
+      go (yes l) d = absurd (false≢true (sym (first.before i a l) ∙ t))
+      go (no l) (yes m) = absurd (false≢true (sym (before at first.from m) ∙ first.found (omega arith)))
+      go (no l) (no m) = omega arith
+
+pub found : (f : ℕ → Bool) (from end : ℕ) (r : Option ℕ)
+    → MatchOption r ((k : ℕ) → from ≤ k → k < end → f k ≡ false) (λ i. (from ≤ i) × (i < end) × (f i ≡ true) × ((k : ℕ) → from ≤ k → k < i → f k ≡ false))
+    → Found f from end r
+found f from end None none = record { first = none-passes f from end _ (least f (end - from) from) none; within = tt }
+found f from end (Some i) (a, b, t, before) = record { first = first-passes f from end _ (least f (end - from) from) i a b t before; within = (a, b) }

@@ -1,4 +1,6 @@
 pub mod Table
 pub mod Least
-pub mod Waiting
 pub mod Cells
+pub mod Waiting
+pub mod Filled
+pub mod Text

@@ -1,95 +1,74 @@
--- Laws of what waits in a buffer: a byte at its place, a text byte by byte. Assumes nothing.
-use mathlib.Core.Path.{◌≡◌, refl, sym, ap, ◌∙◌}
-use mathlib.Core.Bool.{Bool, true, false}
-use mathlib.Core.List.{List, [], ◌∷◌, ◌++◌, append-nil}
-use Prim.Native.Nat.{ℕ, ◌+◌, ◌≤◌, ◌<◌}
-use native.Mathlib.Numerals.{add-one}
-use native.Mathlib.Omega.{arith}
-use lib.Dec.{ltb}
-use lib.ListN.{length, get_or, take, drop, set, drop_of_length-le, length-append}
-use lib.Seq.{append_snoc, take_all, length-take-le, take-suc-set, drop-cons}
-use borrow.Author.Tests.{ltb-true, ltb-false, lt-ltb}
+-- Laws of what waits: a text is added byte by byte, and stands behind what waits where there is room. Assumes nothing.
+use Rattle.std.proofs.Common.{◌≡◌, ℕ, ◌+◌, ◌≤◌, ◌<◌, List, [], ◌∷◌, ◌++◌, length, take, get_or, Option, Some, None, IfSome, Result, Ok, Err, OnOk, OnErr, refl, sym, ap, ◌∙◌, arith, length-append, append-nil, append_assoc}
+use Rattle.std.proofs.lemmas.List.{take_more, length-take-le}
+use Rattle.std.specs.List.{concat, FoldsTo}
+use Rattle.std.specs.declared.fmt.Error.{Error}
+use Rattle.std.specs.Fmt.{WritesText}
 use Rattle.listing.specs.Waiting.{block, byte_more, text_more, Leaves}
 
--- the byte at its place, by what `place` says of that
-module _ (out : List ℕ) (used b n : ℕ) (whole : length out ≡ block) (room : used < block → n ≡ used) (full : block ≤ used → n ≤ block → (used ≤ block) × (n ≡ 0)) where
-  behind : used < block → take (used + 1) (set out used b) ≡ byte_more b (take used out)
-  behind l =
-      let k : length (take used out) ≡ used = length-take-le used out (omega arith) in
-      rw (k, lt-ltb used block l, add-one used) (take-suc-set out used b (omega arith))
+-- two texts, one behind the other
+pub text_more-append : (xs ys waits : List ℕ) → text_more (xs ++ ys) waits ≡ text_more ys (text_more xs waits)
+unfolding text_more
+text_more-append [] ys waits = refl
+text_more-append (x ∷ xs) ys waits = text_more-append xs ys (byte_more x waits)
 
-  alone : used ≡ block → take 1 (set out 0 b) ≡ byte_more b (take used out)
-  alone e =
-      let t : take used out ≡ out = take_all used out (omega arith) in
-      rw (t, whole) (take-suc-set out 0 b (omega arith))
+pub text_more-none : (waits : List ℕ) → text_more [] waits ≡ waits
+unfolding text_more
+text_more-none waits = refl
 
-  pub stored : n < block → Leaves (byte_more b) out used (set out n b) (n + 1) × (used < block → n + 1 ≡ used + 1)
-  stored l = (go (ltb used block) refl, λ u. ap (λ (k : ℕ). k + 1) (room u))
+pub text_more-one : (b : ℕ) (waits : List ℕ) → text_more (b ∷ []) waits ≡ byte_more b waits
+unfolding text_more
+text_more-one b waits = refl
+
+pub Leaves-none : (o : Option (List ℕ)) → Leaves (text_more []) o o
+unfolding text_more
+Leaves-none None = tt
+Leaves-none (Some w) = refl
+
+pub Leaves-append : (xs ys : List ℕ) (a b c : Option (List ℕ)) → Leaves (text_more xs) a b → Leaves (text_more ys) b c → Leaves (text_more (xs ++ ys)) a c
+Leaves-append xs ys a b None f g = tt
+Leaves-append xs ys a None (Some c) f g = absurd g
+Leaves-append xs ys None (Some b) (Some c) f g = absurd f
+Leaves-append xs ys (Some a) (Some b) (Some c) f g = g ∙ ap (text_more ys) f ∙ sym (text_more-append xs ys a)
+
+pub Leaves-byte : (b : ℕ) (o p : Option (List ℕ)) → Leaves (byte_more b) o p → Leaves (text_more (b ∷ [])) o p
+Leaves-byte b o None f = tt
+Leaves-byte b None (Some p) f = absurd f
+Leaves-byte b (Some o) (Some p) f = f ∙ sym (text_more-one b o)
+
+-- where there is room, a text stands behind what waits: it is added byte by byte
+abbrev pub Room : Option (List ℕ) → ℕ → List ℕ → Option (List ℕ) → Type 0
+Room before n added after = IfSome before (λ w. length w + n ≤ block → after ≡ Some (w ++ added))
+
+pub Room-none : (o : Option (List ℕ)) (n : ℕ) → Room o n [] o
+Room-none None n = tt
+Room-none (Some w) n = λ h. ap Some (sym (append-nil w))
+
+module _ (letters : List ℕ) (i : ℕ) (o p q : Option (List ℕ)) (l : i < length letters) where
+  pub Leaves-more : Leaves (text_more (take i letters)) o p → Leaves (byte_more (get_or letters i 0)) p q → Leaves (text_more (take (i + 1) letters)) o q
+  Leaves-more f g = rw (take_more letters i 0 l) (Leaves-append (take i letters) (get_or letters i 0 ∷ []) o p q f (Leaves-byte _ p q g))
+
+  pub Room-more : Room o (length letters) (take i letters) p → IfSome p (λ w. length w < block → q ≡ Some (w ++ get_or letters i 0 ∷ [])) → Room o (length letters) (take (i + 1) letters) q
+  Room-more f g = go o f
     where
-      go : (x : Bool) → ltb used block ≡ x → Leaves (byte_more b) out used (set out n b) (n + 1)
-      go true e h = let u = ltb-true used block e in (omega arith, rw (room u) (behind u))
-      go false e h =
-          let u = ltb-false used block e in
-          let (v, z) = full u (omega arith) in
-          (v, rw z (alone (omega arith)))
+      go : (o : Option (List ℕ)) → Room o (length letters) (take i letters) p → Room o (length letters) (take (i + 1) letters) q
+      go None f = tt
+      go (Some w) f = λ h.
+          let e = f h in
+          let n : length (w ++ take i letters) ≡ length w + i = length-append w (take i letters) ∙ ap (λ k. length w + k) (length-take-le i letters (omega arith)) in
+          let r = rw e at g in
+          rw (take_more letters i 0 l) (r (omega arith) ∙ ap Some (append_assoc w (take i letters) (get_or letters i 0 ∷ [])))
 
-  -- no place: output is given up
-  pub unstored : block ≤ n → Leaves (byte_more b) out used out n × (used < block → n ≡ used + 1)
-  unstored l = (go (ltb used block) refl, λ u. let e = room u in omega arith)
-    where
-      go : (x : Bool) → ltb used block ≡ x → Leaves (byte_more b) out used out n
-      go true e h = let u = ltb-true used block e in let z = room u in absurd (let f : ⊥ = omega arith in f)
-      go false e h = let (v, z) = full (ltb-false used block e) h in absurd (let f : ⊥ = omega arith in f)
+-- the parts of a text that is written in several calls
+parts_more : (parts : List (List ℕ)) (a b : Option (List ℕ)) → FoldsTo (λ x letters y. Leaves (text_more letters) x y) a parts b → Leaves (text_more (concat parts)) a b
+parts_more [] a b f = rw (sym f) (Leaves-none a)
+parts_more (x ∷ xs) a b (m, f, g) = Leaves-append x (concat xs) a m b f (parts_more xs m b g)
 
--- a count that is neither 0 nor within the buffer
-pub above : (count : ℕ) → (count ≤ block → count ≡ 0) → (count ≡ 0 → ⊥) → block < count
-above count f n = go (ltb block count) refl
-  where
-    go : (x : Bool) → ltb block count ≡ x → block < count
-    go true e = ltb-true block count e
-    go false e = absurd (n (f (ltb-false block count e)))
+pub Leaves-written : (o : Option (List ℕ)) (a b : Option (List ℕ)) → WritesText (λ x letters y. Leaves (text_more letters) x y) a o b → IfSome o (λ letters. Leaves (text_more letters) a b)
+Leaves-written None a b w = tt
+Leaves-written (Some t) a b w = rw (sym w.whole) (parts_more w.parts a b w.calls)
 
--- a text, from its byte i on
-more-text : (letters : List ℕ) (i : ℕ) (waits : List ℕ) → i < length letters → text_more (drop i letters) waits ≡ text_more (drop (i + 1) letters) (byte_more (get_or letters i 0) waits)
-unfolding text_more
-more-text letters i waits l = rw (add-one i, drop-cons letters i 0 l)
-
-no_more : (letters : List ℕ) (i : ℕ) (waits : List ℕ) → length letters ≤ i → text_more (drop i letters) waits ≡ waits
-unfolding text_more
-no_more letters i waits l = rw (drop_of_length-le letters l)
-
--- where there is room, a text stands behind what waits
-pub room_for : (letters waits : List ℕ) → length waits + length letters ≤ block → text_more letters waits ≡ waits ++ letters
-unfolding text_more
-room_for [] waits h = sym (append-nil waits)
-room_for (b ∷ rest) waits h =
-    let n : length (waits ++ (b ∷ [])) ≡ length waits + 1 = length-append waits (b ∷ []) in
-    rw (lt-ltb (length waits) block (omega arith)) (room_for rest (waits ++ (b ∷ [])) (omega arith) ∙ append_snoc waits b rest)
-
--- what the bytes from i on make of what waits is what the whole text makes of what waited first; where there is room, each byte counts
-pub record Kept (letters first : List ℕ) (used₀ : ℕ) (out : List ℕ) (used i : ℕ) : Type 0 where
-  pub within : i ≤ length letters
-  pub waits : used ≤ block → (used₀ ≤ block) × (text_more (drop i letters) (take used out) ≡ text_more letters (take used₀ first))
-  pub counts : used₀ + length letters ≤ block → used ≡ used₀ + i
-
-module _ (letters first : List ℕ) (used₀ : ℕ) where
-  pub begun : Kept letters first used₀ first used₀ 0
-  begun = record { within = omega arith; waits = (λ h. (h, refl)); counts = (λ h. omega arith) }
-
-  pub again : (out after : List ℕ) (used count i : ℕ) → Kept letters first used₀ out used i → i < length letters
-      → Leaves (byte_more (get_or letters i 0)) out used after count
-      → (used < block → count ≡ used + 1)
-      → Kept letters first used₀ after count (i + 1)
-  again out after used count i k l h n =
-      record {
-        within = omega arith;
-        waits = λ w.
-            let (u, t) = h w in
-            let (v, e) = k.waits u in
-            (v, rw (t, ← more-text letters i (take used out) l) e);
-        counts = λ r. let c : used ≡ used₀ + i = k.counts r in let m = n (omega arith) in omega arith;
-      }
-
-  pub done : (out : List ℕ) (used i : ℕ) → Kept letters first used₀ out used i → length letters ≤ i
-      → Leaves (text_more letters) first used₀ out used × (used₀ + length letters ≤ block → used ≡ used₀ + length letters)
-  done out used i k l = ((λ w. let (v, e) = k.waits w in (v, sym (no_more letters i (take used out) l) ∙ e)), (λ r. let c = k.counts r in let b = k.within in omega arith))
+pub Leaves-printed : (r : Result (Unit {0}) Error) (o : Option (List ℕ)) (a b d : Option (List ℕ)) → OnOk r (WritesText (λ x letters y. Leaves (text_more letters) x y) a o b) → OnOk r (d ≡ b) → OnErr r (d ≡ None) → IfSome o (λ letters. Leaves (text_more letters) a d)
+Leaves-printed (Ok u) o a b d w k n = rw k (Leaves-written o a b w)
+Leaves-printed (Err e) None a b d w k n = tt
+Leaves-printed (Err e) (Some t) a b d w k n = rw n tt

@@ -1,11 +1,7 @@
 -- A mark as text: "0+2", "1/1+0+3".
-use Rattle.std.specs.Prelude.{ℕ, zero, suc, ◌+◌, ◌/◌, ◌%◌, List, [], ◌∷◌, ◌++◌, eqb, ltb, take}
+use Rattle.std.specs.Prelude.{ℕ, zero, suc, ◌+◌, ◌/◌, ◌%◌, List, [], ◌∷◌, ◌++◌, eqb, ltb}
 use Rattle.mcode.specs.Word.{pick}
 use Rattle.mcode.specs.Depths.{depth_of, promised, saves, list_of}
-use Rattle.listing.specs.declared.cell.Cell.{Cell}
-
-abbrev pub text_of : Cell → List ℕ
-text_of cell = take cell.count cell.letters
 
 -- a number below 100 in decimal
 unfoldable pub number_text : ℕ → List ℕ

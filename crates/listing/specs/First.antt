@@ -1,5 +1,5 @@
 -- The first number that passes a test.
-use Rattle.std.specs.Prelude.{ℕ, zero, suc, ◌+◌, ◌≤◌, ◌<◌, ◌≡◌, Bool, true, false, not, List, eqb, get_or}
+use Rattle.std.specs.Prelude.{ℕ, zero, suc, ◌+◌, ◌-◌, ◌≤◌, ◌<◌, ◌≡◌, Bool, true, false, not, List, eqb, get_or, Option, Some, None, IfSome}
 use Rattle.mcode.specs.Word.{pick}
 use Rattle.mcode.specs.Image.{entry_of}
 use Rattle.mcode.specs.Depths.{unmarked, entry}
@@ -19,6 +19,16 @@ pub record First (f : ℕ → Bool) (n i r : ℕ) : Type 0 where
 
 unfoldable pub IsFirst : Type 0
 IsFirst = (f : ℕ → Bool) (n i : ℕ) → First f n i (first_from f n i)
+
+-- the number that is found, or where there is none the end
+abbrev pub place_of : ℕ → Option ℕ → ℕ
+place_of end None = end
+place_of end (Some i) = i
+
+-- r is the first number from `from` on and below `end` that passes
+pub record Found (f : ℕ → Bool) (from end : ℕ) (r : Option ℕ) : Type 0 where
+  pub first : place_of (from + (end - from)) r ≡ first_from f (end - from) from
+  pub within : IfSome r (λ i. (from ≤ i) × (i < end))
 
 -- ---- the tests
 

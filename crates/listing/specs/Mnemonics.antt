@@ -1,5 +1,5 @@
 -- The mnemonics: sixteen opcodes to a line, five letters each, filled up with blanks; blanks alone for an opcode that is not listed.
--- The same letters as the array of src/names.rt.
+-- The same letters as the text of src/names.rt.
 use Rattle.std.specs.Prelude.{ℕ, ◌+◌, ◌*◌, ◌<◌, ◌≡◌, Bool, List, [], ◌∷◌, eqb, get_or}
 use Prim.Native.String.{String, ◌++◌, [] as []ˢ, ◌∷◌ as ◌∷ˢ◌}
 use Prim.Native.Char.{code}

@@ -1,5 +1,5 @@
 -- An instruction as a listing shows it, by the definitions of the opcode table, the code's bytes and the jump's target.
-use Rattle.std.specs.Prelude.{ℕ, ◌+◌, ◌<◌, ◌≡◌, Bool, List, eqb, ltb, get_or}
+use Rattle.std.specs.Prelude.{ℕ, ◌+◌, ◌<◌, ◌≡◌, Bool, List, [], ◌∷◌, eqb, ltb, get_or, Option, Some, None}
 use Rattle.mcode.specs.Word.{pick, or}
 use Rattle.mcode.specs.Opcode.{lengths}
 use Rattle.mcode.specs.Image.{code_byte, entry_of, params_of, results_of}
@@ -41,21 +41,19 @@ bytes_of op FarCall = 2
 unfoldable pub OperandsAgree : Type 0
 OperandsAgree = (op : ℕ) → op < 256 → 0 < get_or lengths op 0 → get_or lengths op 0 ≡ 1 + bytes_of op (operand_of op)
 
-abbrev pub target_of : ℕ → ℕ → ℕ → ℕ → ℕ
-target_of op s b c = pick (jumping op) (target op s b c) 0
+-- the position that a jump goes to
+abbrev pub target_of : ℕ → ℕ → ℕ → ℕ → Option ℕ
+target_of op s b c = pick (jumping op) (Some (target op s b c)) None
 
--- the size of an instruction at p, or 0 where it would end past the code
-abbrev pub fitting : ℕ → ℕ → ℕ → ℕ
-fitting size p length = pick (ltb length (p + size)) 0 size
+-- the size of an instruction at p; none where it is not listed, or would end past the code
+abbrev pub fitting : ℕ → ℕ → ℕ → Option ℕ
+fitting size p length = pick (or (eqb size 0) (ltb length (p + size))) None (Some size)
 
 unfoldable pub instruction_at : List ℕ → Module → ℕ → Instruction
 instruction_at image m p = record {
   op = code_byte image m p;
   size = fitting (get_or lengths (code_byte image m p) 0) p m.length;
-  first = code_byte image m (p + 1);
-  second = code_byte image m (p + 2);
-  third = code_byte image m (p + 3);
-  fourth = code_byte image m (p + 4);
+  operands = code_byte image m (p + 1) ∷ code_byte image m (p + 2) ∷ code_byte image m (p + 3) ∷ code_byte image m (p + 4) ∷ [];
   target = target_of (code_byte image m p) (p + 1) (code_byte image m (p + 1)) (code_byte image m (p + 2));
 }
 

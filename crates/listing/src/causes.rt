@@ -1,28 +1,17 @@
-// The words of the causes of refusal 13.
-ghost use Rattle.std.specs.Prelude.{◌≤◌};
+// The words of the causes of refusal 13. (A cause is mcode's type, and the engine prints nothing: a Display of it has no place there, and
+// cannot stand here.)
+ghost use Rattle.std.specs.Prelude.{◌≡◌};
+ghost use Rattle.listing.specs.Causes.{cause_words};
 
 use mcode::Cause;
 
-// The words, filled up with blanks.
-pub fn words_of(cause: Cause) -> [u8; 27] {
-    match cause {
-        Cause::Nothing => *b"                           ",
-        Cause::Opcode => *b"unlisted opcode            ",
-        Cause::Operands => *b"operands outside the code  ",
-        Cause::Name => *b"no such module or procedure",
-        Cause::Successor => *b"successor outside the code ",
-    }
-}
-
-// How many letters there are before the blanks.
-pub fn words_length(cause: Cause) -> usize
-    ensures { result ≤ 27 }
+pub fn words_of(cause: Cause) -> &'static str
+    ensures { result.now ≡ cause_words cause }
 {
     match cause {
-        Cause::Nothing => 0,
-        Cause::Opcode => 15,
-        Cause::Operands => 25,
-        Cause::Name => 27,
-        Cause::Successor => 26,
+        Cause::Opcode => "unlisted opcode",
+        Cause::Operands => "operands outside the code",
+        Cause::Name => "no such module or procedure",
+        Cause::Successor => "successor outside the code",
     }
 }

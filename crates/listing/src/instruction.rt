@@ -1,26 +1,29 @@
 // An instruction of a module's code, with its operands.
-ghost use Rattle.std.specs.Prelude.{◌≡◌, ◌≤◌};
+ghost use Rattle.std.specs.Prelude.{◌≡◌, ◌≤◌, IfOk};
 ghost use Rattle.mcode.specs.Depths.{target};
-ghost use Rattle.listing.specs.Shape.{is_call, operand_of, fitting, target_of, instruction_at};
+ghost use Rattle.listing.specs.Shape.{operand_of, fitting, target_of, instruction_at};
 
-use crate::bytes::byte_from;
-use depths::rules::{is_jump, names_module, wide};
+use crate::bytes::{byte_from, word_of};
+use crate::names::name_of;
+use arrayvec::ArrayString;
+use depths::rules::{is_jump, names_module};
 use mcode::Module;
+use mcode::opcode::length_of;
+use std::fmt;
+use std::fmt::Write;
 
-// The opcode, its length (0: it is not listed, or its operands do not lie in the code), the four bytes after it, and for a jump the
-// position that it goes to, else 0.
+// The opcode, its length (none where it is not listed, or its operands do not lie in the code), the four bytes after it, and the position
+// that a jump goes to.
 #[derive(Clone, Copy)]
 pub struct Instruction {
     pub op: u8,
-    pub size: u8,
-    pub first: u8,
-    pub second: u8,
-    pub third: u8,
-    pub fourth: u8,
-    pub target: u16,
+    pub size: Option<u8>,
+    pub operands: [u8; 4],
+    pub target: Option<u16>,
 }
 
 // What an opcode's operands are: none, a byte, a word, two words, a jump's distance, module and byte, procedure, module and procedure.
+// (Nothing is a kind like the others: with an Option each match would name it in another way, and be no plainer.)
 #[derive(Clone, Copy)]
 pub enum Operand {
     Nothing,
@@ -33,82 +36,62 @@ pub enum Operand {
     FarCall,
 }
 
-// 356 and 360.
-fn is_call(op: u8) -> bool
-    ensures { result ≡ is_call op }
-{
-    if op == 0o356 {
-        return true;
-    }
-    op == 0o360
-}
-
 // Where no opcode's own rule stands, its length says which operands it has.
+#[tactic(auto, unfolding(crate::specs::Shape::operand_of))]
 pub fn operand_of(op: u8) -> Operand
     ensures { result ≡ operand_of op }
 {
-    if is_jump(op) {
-        return Operand::Jump;
+    match op {
+        _ if is_jump(op) => Operand::Jump,
+        _ if names_module(op) => Operand::Global,
+        0o355 => Operand::FarCall,
+        0o356 | 0o360 => Operand::Call,
+        _ => match length_of(op) {
+            5 => Operand::Double,
+            3 => Operand::Word,
+            2 => Operand::Byte,
+            _ => Operand::Nothing,
+        },
     }
-    if names_module(op) {
-        return Operand::Global;
-    }
-    if op == 0o355 {
-        return Operand::FarCall;
-    }
-    if is_call(op) {
-        return Operand::Call;
-    }
-    let size = mcode::opcode::length_of(op);
-    if size == 5 {
-        return Operand::Double;
-    }
-    if size == 3 {
-        return Operand::Word;
-    }
-    if size == 2 {
-        return Operand::Byte;
-    }
-    Operand::Nothing
 }
 
 // The target of the jump op whose operand begins at s: a jump is counted from the operand's first byte.
+#[tactic(auto, unfolding(mcode::specs::Depths::target))]
 fn jump_target(op: u8, s: usize, b: u8, c: u8) -> u16
     requires { s ≤ 65536 }
     ensures { result ≡ target op s b c }
 {
-    if op < 0o32 {
-        return ((s + (wide(b) * 256 + wide(c))) % 65536) as u16;
-    }
-    if op == 0o34 {
-        return ((s + (65536 - wide(b))) % 65536) as u16;
-    }
-    if op == 0o35 {
-        return ((s + (65536 - wide(b))) % 65536) as u16;
-    }
-    ((s + wide(b)) % 65536) as u16
+    let distance = if op < 0o32 {
+        b as usize * 256 + c as usize
+    } else if op == 0o34 || op == 0o35 {
+        65536 - b as usize
+    } else {
+        b as usize
+    };
+    ((s + distance) % 65536) as u16
 }
 
-fn target_of(op: u8, s: usize, b: u8, c: u8) -> u16
+fn target_of(op: u8, s: usize, b: u8, c: u8) -> Option<u16>
     requires { s ≤ 65536 }
     ensures { result ≡ target_of op s b c }
 {
     if is_jump(op) {
-        return jump_target(op, s, b, c);
+        return Some(jump_target(op, s, b, c));
     }
-    0
+    None
 }
 
-// The size of an instruction at p, or 0 where it would end past the code.
-fn fitting_size(size: u8, p: u16, length: u16) -> u8
+// The size of an instruction at p; none where it is not listed, or would end past the code.
+fn fitting_size(size: u8, p: u16, length: u16) -> Option<u8>
     ensures { result ≡ fitting size p length }
 {
-    if (length as usize) < p as usize + size as usize {
-        return 0;
+    if size == 0 || (length as usize) < p as usize + size as usize {
+        return None;
     }
-    size
+    Some(size)
 }
 
+#[tactic(auto, unfolding(crate::specs::Shape::instruction_at))]
 pub fn instruction_at(image: &[u8], m: Module, p: u16) -> Instruction
     ensures { result ≡ instruction_at image.now m p }
 {
@@ -118,15 +101,43 @@ pub fn instruction_at(image: &[u8], m: Module, p: u16) -> Instruction
     let second = byte_from(image, m.code, at + 2);
     let third = byte_from(image, m.code, at + 3);
     let fourth = byte_from(image, m.code, at + 4);
-    let size = fitting_size(mcode::opcode::length_of(op), p, m.length);
-    let target = target_of(op, at + 1, first, second);
     Instruction {
         op,
-        size,
-        first,
-        second,
-        third,
-        fourth,
-        target,
+        size: fitting_size(length_of(op), p, m.length),
+        operands: [first, second, third, fourth],
+        target: target_of(op, at + 1, first, second),
+    }
+}
+
+impl Instruction {
+    ghost use Rattle.listing.specs.Text.{Shows};
+
+    // The name and the operands, as LIB 200, or LID 1 65535, the high word first; a jump shows the position that it goes to.
+    pub fn text(&self) -> Result<ArrayString<47>, fmt::Error>
+        ensures { IfOk result (λ text. Shows self.now text.bytes) }
+    {
+        let mut text = ArrayString::new();
+        let [first, second, third, fourth] = self.operands;
+        write!(text, "{}", name_of(self.op).unwrap_or(""))?;
+        match operand_of(self.op) {
+            Operand::Nothing => {}
+            Operand::Byte | Operand::Call => write!(text, " {first}")?,
+            Operand::Word => write!(text, " {}", word_of(first, second))?,
+            Operand::Double => {
+                let high = word_of(first, second);
+                let low = word_of(third, fourth);
+                write!(text, " {high} {low}")?;
+            }
+            Operand::Jump => write!(text, " {}", self.target.unwrap_or(0))?,
+            Operand::Global | Operand::FarCall => write!(text, " {first} {second}")?,
+        }
+        Ok(text)
+    }
+}
+
+impl fmt::Display for Instruction {
+    fn fmt<W: fmt::Write>(&self, f: &mut fmt::Formatter<W>) -> fmt::Result {
+        let text = self.text()?;
+        f.pad(text.as_str())
     }
 }

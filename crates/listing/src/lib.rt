@@ -2,13 +2,12 @@
 // and marks.
 #![tactic(auto)]
 
-pub mod block;
 pub mod bytes;
 pub mod causes;
 pub mod cell;
 pub mod instruction;
 pub mod names;
-pub mod print;
+pub mod page;
 pub mod procedure;
 pub mod search;
 pub mod streams;

@@ -1,9 +1,10 @@
 // The mnemonics of the published table, for the opcodes that are listed: five letters for each opcode, filled up with blanks, and
 // five blanks for an opcode that is not listed.
-ghost use Rattle.std.specs.Prelude.{◌≡◌, ◌≤◌};
+ghost use Rattle.std.specs.Prelude.{◌≡◌, IfSome};
 ghost use Rattle.listing.specs.Mnemonics.{name_of};
+ghost use Rattle.listing.specs.Names.{row_of, EndsInLetter};
 
-pub const NAMES: [u8; 1280] = *b"\
+pub const NAMES: &str = "\
     LI0  LI1  LI2  LI3  LI4  LI5  LI6  LI7  LI8  LI9  LI10 LI11 LI12 LI13 LI14 LI15 \
     LIB       LIW  LID  LLA  LGA  LSA  LEA  JPC  JP   JPFC JPF  JPBC JPB  ORJP ANDJP\
     LLW  LLD  LEW  LED  LLW4 LLW5 LLW6 LLW7 LLW8 LLW9 LLW10LLW11LLW12LLW13LLW14LLW15\
@@ -21,41 +22,12 @@ pub const NAMES: [u8; 1280] = *b"\
     \x20                                       GB   GB1       ENTR RTN  CX   CI        \
     CL   CL1  CL2  CL3  CL4  CL5  CL6  CL7  CL8  CL9  CL10 CL11 CL12 CL13 CL14 CL15 ";
 
-// The row of an opcode.
-pub fn name_of(op: u8) -> [u8; 5]
-    ensures { result ≡ name_of op }
+// The name of an opcode: its row without the blanks at its end. An opcode that is not listed has none.
+pub fn name_of(op: u8) -> Option<&'static str>
+    ensures row { row_of result ≡ name_of op }
+    ensures letter { IfSome result (λ name. EndsInLetter name.now) }
 {
-    let names = NAMES;
-    let i = 5 * op as usize;
-    [
-        names[i],
-        names[i + 1],
-        names[i + 2],
-        names[i + 3],
-        names[i + 4],
-    ]
-}
-
-// The letters of a name before its blanks.
-pub fn name_length(name: [u8; 5]) -> usize
-    ensures { result ≤ 5 }
-{
-    if name[1] == b' ' {
-        return 1;
-    }
-    if name[2] == b' ' {
-        return 2;
-    }
-    if name[3] == b' ' {
-        return 3;
-    }
-    if name[4] == b' ' {
-        return 4;
-    }
-    5
-}
-
-// An opcode as three octal digits.
-pub fn octal_of(op: u8) -> [u8; 3] {
-    [b'0' + op / 64, b'0' + op / 8 % 8, b'0' + op % 8]
+    let at = 5 * op as usize;
+    let name = NAMES[at..at + 5].trim_ascii_end();
+    if name.is_empty() { None } else { Some(name) }
 }

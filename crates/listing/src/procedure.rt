@@ -1,13 +1,14 @@
 // The procedures of a module.
-ghost use Rattle.std.specs.Prelude.{◌≡◌, ◌-◌, ◌≤◌};
+ghost use Rattle.std.specs.Prelude.{◌≡◌, ◌<◌, IfSome};
 ghost use Rattle.mcode.specs.Image.{proc_count};
 ghost use Rattle.listing.specs.Shape.{procedure_of};
-ghost use Rattle.listing.specs.First.{first_from, enters};
+ghost use Rattle.listing.specs.First.{Found, enters};
 
 use crate::bytes::{byte_from, word_of};
+use depths::rules::proc_count;
 use mcode::Module;
 
-#[derive(Clone, Copy)]
+#[derive(Clone, Copy, Default)]
 pub struct Procedure {
     pub entry: u16,
     pub params: u8,
@@ -15,15 +16,12 @@ pub struct Procedure {
 }
 
 // Procedure i. A module with no records has procedure 0, which enters at 0.
+#[tactic(auto, unfolding(crate::specs::Shape::procedure_of))]
 pub fn procedure_of(image: &[u8], m: Module, i: u16) -> Procedure
     ensures { result ≡ procedure_of image.now m i }
 {
     if m.procs == 0 {
-        return Procedure {
-            entry: 0,
-            params: 0,
-            results: 0,
-        };
+        return Procedure::default();
     }
     let at = 4 * i as usize;
     let table = m.table;
@@ -38,18 +36,10 @@ pub fn procedure_of(image: &[u8], m: Module, i: u16) -> Procedure
     }
 }
 
-// The first procedure, from `from` on, that enters at p; the count of procedures where there is none.
-pub fn entered(image: &[u8], m: Module, p: u16, from: usize) -> usize
-    ensures { (result ≡ first_from (enters image.now m p) (proc_count m - from) from) × (from ≤ result) }
+// The first procedure, from `from` on, that enters at p.
+pub fn entered(image: &[u8], m: Module, p: u16, from: usize) -> Option<usize>
+    ensures first { Found (enters image.now m p) from (proc_count m) result }
+    ensures small { IfSome result (λ i. i < 65536) }
 {
-    let end = depths::rules::proc_count(m);
-    let mut i = from;
-    while i < end {
-        let procedure = procedure_of(image, m, i as u16);
-        if procedure.entry == p {
-            return i;
-        }
-        i += 1;
-    }
-    i
+    (from..proc_count(m)).find(|i| procedure_of(image, m, *i as u16).entry == p)
 }

@@ -1,6 +1,8 @@
 // The standard streams of a program, bytes written to one of them, and the line on standard error that says why a call failed.
-use std::io::{Print, Stderr, Stdin, Stdout, Write};
-use std::{io, str};
+use arrayvec::ArrayString;
+use std::fmt::Write;
+use std::io;
+use std::io::{Print, Stderr, Stdin, Stdout};
 
 #[derive(Clone, Copy)]
 pub struct Streams {
@@ -16,31 +18,24 @@ pub fn write_all(to: &impl Print, bytes: &[u8]) -> bool {
 
 // The system's words for an error, without its number behind them.
 fn words(text: &str) -> &str {
-    match text.split_once(" (os error ") {
-        Some((front, _)) => front,
-        None => text,
-    }
+    text.split_once(" (os error ")
+        .map_or(text, |(front, _)| front)
 }
 
-// The error's text at the start of the buffer, and how long it is.
-fn spelled(error: io::Error, buffer: &mut [u8; 128]) -> usize {
-    let mut rest: &mut [u8] = buffer;
-    let most = rest.len();
-    let whole = write!(rest, "{error}");
-    match whole {
-        Ok(()) => most.saturating_sub(rest.len()),
-        Err(_) => 0,
+// The error's text; none where it is longer than the buffer.
+fn spelled(error: io::Error) -> ArrayString<128> {
+    let mut text = ArrayString::new();
+    match write!(text, "{error}") {
+        Ok(()) => text,
+        Err(_) => ArrayString::new(),
     }
 }
 
 // `WHAT: the system's reason` on standard error. Where that cannot be written either, nothing is left to say it on.
 pub fn fail(streams: Streams, what: &[u8], error: io::Error) {
-    let mut buffer = [0u8; 128];
-    let n = spelled(error, &mut buffer).min(128);
+    let text = spelled(error);
     write_all(&streams.error, what);
     write_all(&streams.error, b": ");
-    if let Ok(text) = str::from_utf8(&buffer[..n]) {
-        write_all(&streams.error, words(text).as_bytes());
-    }
+    write_all(&streams.error, words(text.as_str()).as_bytes());
     write_all(&streams.error, b"\n");
 }

@@ -1,40 +1,35 @@
 -- What load answers, case by case, from the result of the reader.
-use mathlib.Core.Path.{◌≡◌, refl, sym, subst}
-use mathlib.Core.Logic.{inl, inr}
+use mathlib.Core.Path.{◌≡◌, refl, sym, ap, subst}
 use mathlib.Core.List.{List}
-use Prim.Native.Nat.{ℕ, ◌≤◌, ◌<◌}
-use lib.ListN.{length}
-use borrow.Author.Tests.{le-leb, lt-leb, lt-ltb, le-ltb}
-use Rattle.mcode.specs.declared.Parsed.{Parsed}
+use Prim.Native.Nat.{ℕ}
+use lib.Dec.{leb}
+use native.Mathlib.Omega.{arith}
+use borrow.Author.Tests.{le-leb}
+use Rattle.std.proofs.Common.{Ok, Err}
 use Rattle.mcode.specs.declared.Program.{Program}
-use Rattle.mcode.specs.declared.Verdict.{Verdict}
-use Rattle.mcode.specs.Image.{parse}
-use Rattle.mcode.specs.Depths.{Accepted, NoDepths}
-use Rattle.mcode.specs.Run.{verdict, Judged, accepts, breaks, unfit, Loads}
-use Rattle.loader.specs.Load.{Walked, Refused, LoadsProgram}
+use Rattle.mcode.specs.declared.Refusal.{Refusal}
+use Rattle.mcode.specs.Word.{pick}
+use Rattle.mcode.specs.Image.{Parsed, refused_by, parse}
+use Rattle.mcode.specs.Run.{Verdict, verdict, Loads}
+use Rattle.mcode.specs.Answer.{refusal_number, refusal_verdict, parsed_of}
+use Rattle.loader.specs.Load.{LoadsProgram}
+use Rattle.loader.proofs.Early.{early, numbered, placeless}
 
-module _ (image before : List ℕ) (r : Parsed) (e : r ≡ parse image) (v : Verdict) where
-  pub refused-so : 1 ≤ r.refusal → v ≡ verdict r.refusal → Loads image before v before
-  refused-so l q = subst (λ (p : Parsed). 1 ≤ p.refusal → v ≡ verdict p.refusal → Loads image before v before) (sym e)
-      (λ l q. rw (le-leb 1 (parse image).refusal l) (q, refl)) l q
+-- the number of a refused image, which is not 0
+pub refused-as : (image : List ℕ) (k : Refusal) → parsed_of (Err k) ≡ parse image → (parse image).refusal ≡ refusal_number k
+unfolding refused_by
+refused-as image k e = sym (ap (λ (p : Parsed). p.refusal) e)
+
+pub refused-some : (image : List ℕ) (k : Refusal) → parsed_of (Err k) ≡ parse image → (parse image).refusal ≡ 0 → ⊥
+refused-some image k e z = omega (arith, z, refused-as image k e, numbered k)
+
+module _ (image before : List ℕ) where
+  pub refused-so : (k : Refusal) → parsed_of (Err k) ≡ parse image → Loads image before (refusal_verdict k) before
+  refused-so k e =
+      let n = refused-as image k e in
+      rw (n, le-leb 1 (refusal_number k) (numbered k)) (placeless k (omega (arith, early image, n)), refl)
 
   -- an image that is read, from what is said of its program
-  pub read-so : r.refusal < 1 → (after : List ℕ) → LoadsProgram image r.program before v after → Loads image before v after
-  read-so l after L =
-      rw (lt-leb 1 (parse image).refusal (subst (λ (p : Parsed). p.refusal < 1) e l))
-      (subst (λ (p : Parsed). LoadsProgram image p.program before v after) e L)
-
-module _ (image : List ℕ) (program : Program) (before : List ℕ) (v : Verdict) where
-  pub short-so : length before < length image → v ≡ verdict 7 → LoadsProgram image program before v before
-  short-so h q = rw (lt-ltb (length before) (length image) h) (q, refl)
-
-  module _ (h : length image ≤ length before) (after : List ℕ) where
-    pub accepted-so : v ≡ verdict 0 → Accepted image program before after → LoadsProgram image program before v after
-    accepted-so q A = rw (le-ltb (length before) (length image) h) (accepts q A)
-
-    pub none_so : NoDepths image program → Refused image program before v after → LoadsProgram image program before v after
-    none_so N R = rw (le-ltb (length before) (length image) h) (by R.0)
-      where
-        by : Walked image program v → Judged image program before v after
-        by (inl b) = breaks b.0 b.1 R.1
-        by (inr w) = unfit w.0 w.1 N R.1
+  pub read-so : (program : Program) → parsed_of (Ok program) ≡ parse image → (v : Verdict) (after : List ℕ) → LoadsProgram image program before v after → Loads image before v after
+  read-so program e v after L =
+      subst (λ (p : Parsed). pick (leb 1 p.refusal) ((v ≡ verdict p.refusal) × (after ≡ before)) (LoadsProgram image p.program before v after)) e L

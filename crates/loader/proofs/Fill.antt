@@ -1,47 +1,22 @@
 -- The check of all modules: the map once it is blank, one module's part more, and the map that load leaves.
-use mathlib.Core.Path.{◌≡◌, sym, ap, ◌∙◌, subst}
+use mathlib.Core.Path.{◌≡◌, sym, ◌∙◌, subst}
 use mathlib.Core.Bool.{false≢true}
 use mathlib.Core.List.{List}
 use Prim.Native.Nat.{ℕ, ◌+◌, ◌-◌, ◌≤◌, ◌<◌}
 use native.Mathlib.Decide.{dec_lt}
-use native.Mathlib.Nat.{not-suc-le-zero}
 use native.Mathlib.Omega.{arith}
 use borrow.Author.Count.{below_more}
 use borrow.Rule.Slice.PartMut.{put_mid, same_len_mid}
-use lib.ListN.{length, replicate, get_or-replicate, length-replicate}
+use lib.ListN.{length}
 use Rattle.mcode.specs.declared.Program.{Program}
 use Rattle.mcode.specs.Image.{module_of}
 use Rattle.mcode.specs.Depths.{unmarked, entry, Analysis, Fewest, depths, KeptPast, Accepted}
 use Rattle.mcode.specs.Layout.{Told}
-use Rattle.depths.proofs.Parts.{part, length_part, part_same, part_at, put-part, put-before, put-after}
+use Rattle.depths.proofs.Parts.{part, length_part, part_same, put-part, put-before, put-after}
 use Rattle.depths.proofs.Whole.{from, to, part-is, in-code}
 
 pub kept_trans : (image a b c : List ℕ) → KeptPast image a b → KeptPast image b c → KeptPast image a c
 kept_trans image a b c K L = record { long = L.long ∙ K.long; past = λ p h. L.past p h ∙ K.past p h }
-
--- the part of the map over the image came back as ys, all FF
-module _ (image map ys : List ℕ) (long : length image ≤ length map) (e : ys ≡ replicate (length (part map 0 (length image))) unmarked) where
-  abbrev blanked : List ℕ
-  blanked = put_mid 0 (length image - 0) map ys
-
-  ys-is : ys ≡ replicate (length image) unmarked
-  ys-is = let n : length (part map 0 (length image)) ≡ length image = length_part map 0 (length image) long ∙ omega arith in rw n at e
-
-  len-ys : length ys ≡ length image - 0
-  len-ys = ap length ys-is ∙ length-replicate (length image) unmarked ∙ omega arith
-
-  pub blank-marks : (p : ℕ) → p < length image → entry blanked p ≡ unmarked
-  blank-marks p h =
-      let l : p < length image - 0 = omega arith in
-      sym (part_at blanked 0 (length image) p 0 l ∙ ap (entry blanked) (omega arith))
-      ∙ ap (λ (z : List ℕ). entry z p) (put-part 0 (length image) map ys (omega arith) long len-ys ∙ ys-is)
-      ∙ get_or-replicate (length image) p unmarked 0 h
-
-  pub blank-kept : KeptPast image map blanked
-  blank-kept = record {
-    long = same_len_mid 0 (length image - 0) map ys (len-ys ∙ sym (length_part map 0 (length image) long));
-    past = λ p h. put-after 0 (length image) map ys (omega arith) long len-ys p 0 h;
-  }
 
 abbrev An : List ℕ → Program → ℕ → Analysis
 An image program k = depths image program (module_of program k)
@@ -54,12 +29,6 @@ InCode program n p = (k : ℕ) × (k < n) × (from program k ≤ p) × (p < to p
 pub record Filled (image : List ℕ) (program : Program) (n : ℕ) (map : List ℕ) : Type 0 where
   pub fewest : (k : ℕ) → k < n → Fewest (An image program k) (part map (from program k) (to program k))
   pub outside : (p : ℕ) → p < length image → (InCode program n p → ⊥) → entry map p ≡ unmarked
-
-pub none_filled : (image : List ℕ) (program : Program) (map : List ℕ) → ((p : ℕ) → p < length image → entry map p ≡ unmarked) → Filled image program 0 map
-none_filled image program map f = record {
-  fewest = λ k l. absurd (not-suc-le-zero l);
-  outside = λ p l n. f p l;
-}
 
 -- module k's part came back as ys
 module _ (image : List ℕ) (program : Program) (T : Told image program) (map ys : List ℕ) (long : length image ≤ length map) (k : ℕ)

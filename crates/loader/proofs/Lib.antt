@@ -1,5 +1,6 @@
 pub mod Answers
 pub mod Bases
 pub mod Begin
+pub mod Early
 pub mod Fill
 pub mod Walked

@@ -1,14 +1,18 @@
 -- What start's answer is in the definition's terms, and what copying the bases asks. Assumes nothing.
-use Rattle.std.specs.Prelude.{◌≡◌, ℕ, ◌+◌, ◌-◌, ◌≤◌, ◌<◌, List, length}
+use Rattle.std.specs.Prelude.{◌≡◌, ℕ, ◌+◌, ◌-◌, ◌≤◌, ◌<◌, List, length, Result, Ok, Err}
 use Rattle.mcode.specs.Image.{most_modules, base_copy, margin, module_of}
-use Rattle.mcode.specs.Machine.{address, position}
+use Rattle.mcode.specs.Answer.{refusal_number}
+use Rattle.mcode.specs.Machine.{address, position, zero_machine}
 use Rattle.mcode.specs.Run as Run
 use Rattle.mcode.specs.declared.Registers.{Registers}
+use Rattle.mcode.specs.declared.Machine.{Machine}
 use Rattle.mcode.specs.declared.Program.{Program}
-use Rattle.loader.specs.declared.start.Started.{Started}
+use Rattle.mcode.specs.declared.Refusal.{Refusal}
 
-abbrev pub begun : Started → List ℕ → Run.Started
-begun r store = record { number = r.number; machine = r.machine; store = store }
+-- "a refused start returns a machine of zeros"
+abbrev pub begun : Result Machine Refusal → List ℕ → Run.Started
+begun (Ok machine) store = record { number = 0; machine = machine; store = store }
+begun (Err k) store = record { number = refusal_number k; machine = zero_machine; store = store }
 
 -- the copies of the bases lie in a store of w words, and the bases are words
 pub record Roomy (program : Program) (w : ℕ) : Type 0 where

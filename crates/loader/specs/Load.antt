@@ -3,9 +3,8 @@ use Rattle.std.specs.Prelude.{ℕ, ◌≡◌, ◌⊎◌, Bool, true, false, List
 use Rattle.mcode.specs.Word.{pick}
 use Rattle.mcode.specs.Depths.{KeptPast, Accepted, Blanked, NoDepths}
 use Rattle.mcode.specs.Walk.{AllWhole, Broken}
-use Rattle.mcode.specs.Run.{verdict, Judged}
+use Rattle.mcode.specs.Run.{Verdict, verdict, Judged}
 use Rattle.mcode.specs.declared.Program.{Program}
-use Rattle.mcode.specs.declared.Verdict.{Verdict}
 
 abbrev pub Checked : List ℕ → Program → List ℕ → Bool → List ℕ → Type 0
 Checked image program before true after = Accepted image program before after

@@ -2,4 +2,5 @@
 #![tactic(auto)]
 
 pub mod load;
+pub mod read;
 pub mod start;

@@ -1,12 +1,13 @@
 // A map entry: a depth, a result count and at most four saved depths, packed into 32 bits by shifts. "Depth in bits 0 to 4, results 5 to 7,
 // list length 8 to 10, then five bits for each saved depth from the front, unused bits 0; all ones is unmarked." mcode's specs/Depths.antt has
-// the same as numbers, and proofs/Marks.antt there that packing and the fields are inverse.
+// the same as numbers, and proofs/Marks.antt there that packing and the fields are inverse. A mark is a u32 and no type of its own: C lends maps
+// as numbers (include/cembuxola.h).
 #![tactic(auto)]
 
 ghost use Rattle.std.specs.Prelude.{◌≡◌, true, ◌*◌, ◌^◌, ◌/◌, ◌%◌, ◌≤◌, ◌<◌};
 ghost use Rattle.mcode.specs.Depths.{mark_of, depth_of, promised, saves, list_of, front_of, is_list, is_mark, passed, stored, fetched, permits};
 
-pub const UNMARKED: u32 = 0xffff_ffff;
+pub const UNMARKED: u32 = u32::MAX;
 
 // The field of k that begins at bit `at` and is below `size`.
 fn field(k: u32, at: u32, size: u32) -> u32
@@ -16,18 +17,21 @@ fn field(k: u32, at: u32, size: u32) -> u32
     (k >> at) % size
 }
 
+#[tactic(auto, unfolding(mcode::specs::Depths::depth_of))]
 pub fn depth_of(k: u32) -> u32
     ensures { result ≡ depth_of k }
 {
     field(k, 0, 32)
 }
 
+#[tactic(auto, unfolding(mcode::specs::Depths::promised))]
 pub fn promised_of(k: u32) -> u32
     ensures { result ≡ promised k }
 {
     field(k, 5, 8)
 }
 
+#[tactic(auto, unfolding(mcode::specs::Depths::saves))]
 pub fn saves_of(k: u32) -> u32
     ensures { result ≡ saves k }
 {
@@ -35,6 +39,7 @@ pub fn saves_of(k: u32) -> u32
 }
 
 // The saved depths, the front one in the lowest five bits.
+#[tactic(auto, unfolding(mcode::specs::Depths::list_of))]
 pub fn list_of(k: u32) -> u32
     ensures { result ≡ list_of k }
 {
@@ -42,6 +47,7 @@ pub fn list_of(k: u32) -> u32
 }
 
 // The front saved depth.
+#[tactic(auto, unfolding(mcode::specs::Depths::front_of, mcode::specs::Depths::list_of))]
 pub fn front_of(k: u32) -> u32
     ensures { result ≡ front_of k }
 {
@@ -61,31 +67,21 @@ fn is_list(n: u32, l: u32) -> bool
     ensures { result ≡ is_list n l }
 {
     let mut rest = l;
-    let mut i: u32 = 0;
-    while i < n {
+    for _ in 0..n {
         if 16 < rest % 32 {
             return false;
         }
-        rest = rest >> 5;
-        i += 1;
+        rest >>= 5;
     }
     rest == 0
 }
 
 // Whether k is a mark that has saved depths, or none but another field too large.
+#[tactic(auto, unfolding(mcode::specs::Depths::is_mark))]
 fn is_long(k: u32) -> bool
     ensures { result ≡ is_mark k }
 {
-    if 16 < depth_of(k) {
-        return false;
-    }
-    if 4 < promised_of(k) {
-        return false;
-    }
-    if 4 < saves_of(k) {
-        return false;
-    }
-    is_list(saves_of(k), list_of(k))
+    depth_of(k) <= 16 && promised_of(k) <= 4 && saves_of(k) <= 4 && is_list(saves_of(k), list_of(k))
 }
 
 // Whether k is a mark. One below 160 has no saved depths and at most 4 results.
@@ -93,12 +89,14 @@ pub fn is_mark(k: u32) -> bool
     ensures { result ≡ is_mark k }
 {
     if k < 160 {
-        return depth_of(k) <= 16;
+        depth_of(k) <= 16
+    } else {
+        is_long(k)
     }
-    is_long(k)
 }
 
 // The mark k with another depth.
+#[tactic(auto, unfolding(mcode::specs::Depths::depth_of, mcode::specs::Depths::passed))]
 pub fn passed_on(k: u32, e: u32) -> u32
     requires { e ≤ 31 }
     ensures { result ≡ passed k e }
@@ -106,42 +104,18 @@ pub fn passed_on(k: u32, e: u32) -> u32
     k - depth_of(k) + e
 }
 
-// "RTN needs a depth equal to" the results, and "none" saved.
-fn may_return(k: u32) -> bool
-    ensures { result ≡ permits k 0o354 }
-{
-    if depth_of(k) == promised_of(k) {
-        return saves_of(k) == 0;
-    }
-    false
-}
-
-// "LODFW needs depth 1", and a front saved depth "which must be at most 15".
-fn may_fetch(k: u32) -> bool
-    ensures { result ≡ permits k 0o260 }
-{
-    if depth_of(k) == 1 {
-        if 1 <= saves_of(k) {
-            return front_of(k) <= 15;
-        }
-    }
-    false
-}
-
-// Whether the mark k permits op.
+// Whether the mark k permits op: "RTN needs a depth equal to" the results, and "none" saved; "LODFW needs depth 1", and a front saved depth
+// "which must be at most 15".
+#[tactic(auto, unfolding(mcode::specs::Depths::permits))]
 pub fn permitted(k: u32, op: u8) -> bool
     ensures { result ≡ permits k op }
 {
-    if op == 0o354 {
-        return may_return(k);
+    match op {
+        0o354 => depth_of(k) == promised_of(k) && saves_of(k) == 0,
+        0o262 => saves_of(k) < 4,
+        0o260 => depth_of(k) == 1 && 1 <= saves_of(k) && front_of(k) <= 15,
+        _ => true,
     }
-    if op == 0o262 {
-        return saves_of(k) < 4;
-    }
-    if op == 0o260 {
-        return may_fetch(k);
-    }
-    true
 }
 
 // "STORE adds its depth to the front", "the depth is then 0".

@@ -1,7 +1,7 @@
 -- The statements of A.11. Assumes nothing.
 use mathlib.Core.Path.{refl, sym, ap, ◌∙◌}
 use lib.Dec.{leb}
-use Rattle.mcode.specs.declared.Verdict.{Verdict}
+use Rattle.mcode.specs.Run.{Verdict}
 use Rattle.mcode.specs.Word.{pick}
 use Rattle.mcode.specs.Run.{verdict}
 use Rattle.mcode.specs.Demands.{LoadDetermined}

@@ -14,7 +14,7 @@ use Rattle.mcode.specs.declared.Program.{Program}
 use Rattle.mcode.specs.Word.{pick, and}
 use Rattle.mcode.specs.Image.{parse, module_of, in_code}
 use Rattle.mcode.specs.Depths.{Analysis, entry, mark, Fewest, Answer, depths, marks_of, KeptPast, Accepted, Blanked}
-use Rattle.mcode.specs.declared.Verdict.{Verdict}
+use Rattle.mcode.specs.Run.{Verdict}
 use Rattle.mcode.specs.Walk.{Whole, AllWhole, Broken}
 use Rattle.mcode.specs.Run.{verdict, Judged, accepts, breaks, unfit}
 use Rattle.mcode.specs.Demands.{FewestUnique, MarksReached, LoadDetermined}

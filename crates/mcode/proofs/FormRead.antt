@@ -12,7 +12,7 @@ use lib.Dec.{eqb}
 use borrow.Author.Tests.{eqb-true, eq-eqb, ne_eqb, le-ltb, not-false}
 use Rattle.mcode.specs.declared.Module.{Module}
 use Rattle.mcode.specs.declared.Program.{Program}
-use Rattle.mcode.specs.declared.Parsed.{Parsed}
+use Rattle.mcode.specs.Image.{Parsed}
 use Rattle.mcode.specs.Word.{and, tabulate}
 use Rattle.mcode.specs.Image.{most_modules, no_module, modules_from, parse, module_of, begin_of}
 use Rattle.mcode.specs.Archive.{Procedure, Content, Bits, content_at, contents, spelled_all, default, zeros, needed, module_form, modules_form, form}

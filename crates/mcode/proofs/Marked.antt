@@ -11,7 +11,7 @@ use Rattle.mcode.specs.Opcode.{lengths, takens, lefts}
 use Rattle.mcode.specs.Image.{byte_at, word_at, skip_at, bits_at, data_at, count_at, name_at, length_at, limited_at, record_at, records_at, body_at, module_at, refused_by, modules_from, parse, in_code}
 use Rattle.mcode.specs.Depths.{unmarked, fits, mark_of, depth_of, promised, saves, list_of, front_of, is_list, is_mark, passed, stored, fetched, leaves, permits, depth_flow, target, jumps, calls, calls_in, onward, flow_at, marked, map_fits}
 use Rattle.mcode.specs.Walk.{ways, ways_at, legible, named, cause_at, whole_at}
-use Rattle.mcode.specs.declared.Verdict.{Verdict}
+use Rattle.mcode.specs.Run.{Verdict}
 use Rattle.mcode.specs.Machine.{is_machine}
 use Rattle.mcode.specs.Decode.{row1, row2, row3, loads, stores, row8, row9, row10, row11, row12, row13, row14, row15, decode_of}
 use Rattle.mcode.specs.Step.{followed, call, unit_of, back_to, returned, is_process, saved, restored, written, saved_store, restored_machine, changed, switched, transferred, stack_saved, stack_fetched, perform_of, instruction_of, highest, taken_line, attempt_of, is_caught, caught, trapped, step_of}

@@ -10,7 +10,7 @@ use lib.Dec.{T, ltb}
 use Rattle.mcode.specs.declared.Position.{Position}
 use Rattle.mcode.specs.declared.Machine.{Machine}
 use Rattle.mcode.specs.declared.Stop.{Stop}
-use Rattle.mcode.specs.declared.Value.{Value}
+use Rattle.mcode.specs.Word.{Value}
 use Rattle.mcode.specs.Decode.{Action, OrJump, AndJump, Transfer, Save, Fetch}
 use Rattle.mcode.specs.Word.{pick}
 use Rattle.mcode.specs.Image.{bases_of}

@@ -13,7 +13,7 @@ use Rattle.mcode.specs.Word.{pick, byte}
 use Rattle.mcode.specs.Opcode.{lengths}
 use Rattle.mcode.specs.Image.{parse, module_of, begin_of, code_byte, proc_count}
 use Rattle.mcode.specs.Depths.{Fewest, depths, marks_of, takes_module}
-use Rattle.mcode.specs.declared.Verdict.{Verdict}
+use Rattle.mcode.specs.Run.{Verdict}
 use Rattle.mcode.specs.Run.{verdict, Loads}
 use Rattle.mcode.specs.Demands.{LoadAccepts}
 use Rattle.mcode.specs.Archive.{Procedure, Content, procedure_of, content_at, contents}

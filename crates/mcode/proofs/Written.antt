@@ -9,9 +9,9 @@ use lib.ListN.{length, take, drop, replicate, length-append}
 use lib.Seq.{drop-drop, drop-append_seam, take-append_seam, get_or-drop}
 use lib.Dec.{eqb}
 use borrow.Author.Tests.{lt-ltb, le-leb, ne_eqb}
-use Rattle.mcode.specs.declared.Part.TheVariants.{Got}
+use Rattle.mcode.specs.Image.{Got}
 use Rattle.mcode.specs.declared.Module.{Module}
-use Rattle.mcode.specs.declared.Head.TheVariants.{Read}
+use Rattle.mcode.specs.Image.{Read}
 use Rattle.mcode.specs.Word.{pick, truth, byte, word, tabulate}
 use Rattle.mcode.specs.Image.{byte_at, word_at, skip_at, bits_at, data_at, count_at, name_at, length_at, limited_at, record_at, records_at, first_limit, body_at, module_at}
 use Rattle.mcode.specs.Archive.{Procedure, Content, Bits, name_of, content_at, word_bytes, record_bytes, records_bytes, bit_map, given, spelled}

@@ -2,11 +2,9 @@
 use Rattle.std.specs.Prelude.{ℕ, suc, ◌+◌, ◌-◌, ◌*◌, ◌/◌, ◌%◌, ◌≡◌, Bool, true, false, not, List, [], ◌∷◌, ◌++◌, length, drop, replicate, ltb, leb, eqb}
 use Rattle.mcode.specs.Word.{pick, and, truth, tabulate, slice, byte}
 use Rattle.mcode.specs.Image.{parse, module_of, begin_of, proc_count, entry_of, params_of, results_of}
-use Rattle.mcode.specs.Run.{Loads}
-use Rattle.mcode.specs.declared.Delivered.{Delivered}
+use Rattle.mcode.specs.Run.{Verdict, Loads}
 use Rattle.mcode.specs.declared.Module.{Module}
 use Rattle.mcode.specs.declared.Program.{Program}
-use Rattle.mcode.specs.declared.Verdict.{Verdict}
 
 -- ---- the modules of an image
 
@@ -121,6 +119,10 @@ form cs = length cs ∷ modules_form cs
 -- ---- what the call answers and leaves
 
 -- "return only a number, 0 if accepted, and the length written, 0 if refused", with what the output slice holds then
+pub record Delivered : Type 0 where
+  pub number : ℕ
+  pub length : ℕ
+
 pub record Delivery : Type 0 where
   pub answer : Delivered
   pub output : List ℕ

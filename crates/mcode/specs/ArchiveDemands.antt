@@ -2,7 +2,7 @@
 use Rattle.std.specs.Prelude.{◌≡◌, false, List, [], ◌∷◌, ℕ, suc, ◌≤◌, ◌<◌, length, replicate}
 use Rattle.mcode.specs.Image.{parse, module_of}
 use Rattle.mcode.specs.Depths.{marks_of}
-use Rattle.mcode.specs.declared.Verdict.{Verdict}
+use Rattle.mcode.specs.Run.{Verdict}
 use Rattle.mcode.specs.Run.{verdict, Loads}
 use Rattle.mcode.specs.Archive.{Content, Bits, contents, spelled_all, form, Delivery, Archives}
 

@@ -12,3 +12,4 @@ pub mod Demands
 pub mod Marked
 pub mod Archive
 pub mod ArchiveDemands
+pub mod Answer

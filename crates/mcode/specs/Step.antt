@@ -1,7 +1,7 @@
 -- One step: a line is taken, or the instruction at the machine's position is decoded to an action and the action is performed; a trap of
 -- either leads to the trap process.
-use Rattle.std.specs.Prelude.{ℕ, zero, suc, ◌+◌, ◌-◌, ◌*◌, ◌/◌, ◌^◌, Bool, not, List, [], ◌∷◌, length, get_or, set, replicate, ltb, leb, eqb}
-use Rattle.mcode.specs.Word.{pick, and, or, wrap, bit, byte_of, with_byte, one_of, two_of, three_of, paired, high_of, low_of, double_of}
+use Rattle.std.specs.Prelude.{ℕ, zero, suc, ◌+◌, ◌-◌, ◌*◌, ◌/◌, ◌^◌, Bool, not, List, [], ◌∷◌, length, get_or, set, replicate, ltb, leb, eqb, Ok, Err}
+use Rattle.mcode.specs.Word.{Value, pick, and, or, wrap, bit, byte_of, with_byte, one_of, two_of, three_of, paired, high_of, low_of, double_of}
 use Rattle.mcode.specs.Image.{module_of, bases_of, code_byte, entry_of, margin}
 use Rattle.mcode.specs.Depths.{front_of, mark_at, marked}
 use Rattle.mcode.specs.Machine.{State, state, Live, OutcomeOf, Outcome, go, halt, leaving, handled, stop_number, address, position, machine, at, framed, depth, top, second, third, fourth, on, take1, take2, take3, put, replace1, replace2, replace3, put_pair, pair_for1, pair_for4}
@@ -11,8 +11,6 @@ use Rattle.mcode.specs.declared.Machine.{Machine}
 use Rattle.mcode.specs.declared.Program.{Program}
 use Rattle.mcode.specs.declared.Stop.{Stop}
 use Rattle.mcode.specs.declared.Stop.TheVariants.{Ended, BadAddress, StackLimit, ReturnMark, BadProcess, BadChannel, Program as OfProgram}
-use Rattle.mcode.specs.declared.Value.{Value}
-use Rattle.mcode.specs.declared.Value.TheVariants.{Is, Fault}
 use Rattle.mcode.specs.Decode.{decode_of, Action, Put, AddTop, Jump, JumpZero, OrJump, AndJump, Load, LoadTop, LoadIndexed, Store, StoreBelow, StoreIndexed, LoadByte, StoreByte, One, Two, Three, Copy, Nothing, Read, Write, Trap, Enter, Follow, Call, CallLinked, CallExternal, Return, Transfer, PutPair, LoadPair, LoadPairTop, StorePair, StorePairBelow, Double, Save, Fetch}
 
 -- what a run is lent and only reads
@@ -59,13 +57,13 @@ writes_pair x a high low m = in_pair x a (stores_to x m (set (set x.store a high
 
 -- a computed word, handed on, or its trap
 abbrev pub computed : Value → (ℕ → Outcome) → Outcome
-computed (Is v) f = f v
-computed (Fault k) f = halt k
+computed (Ok v) f = f v
+computed (Err k) f = halt k
 
 -- "350 b: from L, b times the word at that address"
 unfoldable pub followed : List ℕ → ℕ → ℕ → Value
-followed store zero a = Is a
-followed store (suc n) a = let next = followed store n (get_or store a 0) in pick (ltb a (length store)) next (Fault BadAddress)
+followed store zero a = Ok a
+followed store (suc n) a = let next = followed store n (get_or store a 0) in pick (ltb a (length store)) next (Err BadAddress)
 
 -- "S+4 above H is 33. Words S, S+1, S+2 become link (L; a; G for 355), L, next position (+8000 hex for 355); L = S, S += 4."
 -- A call of procedure n of module k, from the machine m, which has the link off its stack

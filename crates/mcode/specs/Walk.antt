@@ -1,6 +1,6 @@
 -- "Follow code from the entries without regard to depth": which positions of a module's code are reached so, and which of them are at
 -- fault. The walk is an analysis whose only mark is 0.
-use Rattle.std.specs.Prelude.{ℕ, ◌+◌, ◌-◌, ◌<◌, ◌≡◌, Bool, true, false, not, List, get_or, ltb, leb, eqb}
+use Rattle.std.specs.Prelude.{ℕ, ◌+◌, ◌-◌, ◌<◌, ◌≡◌, Bool, true, false, not, List, get_or, ltb, leb, eqb, Option, Some, None}
 use Rattle.mcode.specs.Word.{pick, and, or}
 use Rattle.mcode.specs.Opcode.{lengths}
 use Rattle.mcode.specs.Image.{module_of, code_byte, proc_count, entry_of}
@@ -8,7 +8,7 @@ use Rattle.mcode.specs.Depths.{Analysis, Marked, Fits, unmarked, target, jumps, 
 use Rattle.mcode.specs.declared.Module.{Module}
 use Rattle.mcode.specs.declared.Program.{Program}
 use Rattle.mcode.specs.declared.Cause.{Cause}
-use Rattle.mcode.specs.declared.Cause.TheVariants.{Nothing, Opcode, Operands, Name, Successor}
+use Rattle.mcode.specs.declared.Cause.TheVariants.{Opcode, Operands, Name, Successor}
 use Rattle.mcode.specs.declared.Flow.{Flow}
 use Rattle.mcode.specs.declared.Flow.TheVariants.{Fault, Ends, To, Fork}
 
@@ -51,22 +51,19 @@ stays_in size (To q d) = ltb q size
 stays_in size (Fork q d r e) = and (ltb q size) (ltb r size)
 
 -- what is wrong with position p: the first of the paper's four causes that holds
-unfoldable pub cause_at : List ℕ → Program → Module → ℕ → Cause
+unfoldable pub cause_at : List ℕ → Program → Module → ℕ → Option Cause
 cause_at image program m p =
     let op = code_byte image m p in
     let size = get_or lengths op 0 in
-    pick (eqb size 0) Opcode
-    (pick (ltb m.length (p + size)) Operands
-    (pick (not (named program m op (code_byte image m (p + 1)) (code_byte image m (p + 2)))) Name
-    (pick (not (stays_in m.length (ways_at image m p))) Successor
-    Nothing)))
+    pick (eqb size 0) (Some Opcode)
+    (pick (ltb m.length (p + size)) (Some Operands)
+    (pick (not (named program m op (code_byte image m (p + 1)) (code_byte image m (p + 2)))) (Some Name)
+    (pick (not (stays_in m.length (ways_at image m p))) (Some Successor)
+    None)))
 
-abbrev pub is_nothing : Cause → Bool
-is_nothing Nothing = true
-is_nothing Opcode = false
-is_nothing Operands = false
-is_nothing Name = false
-is_nothing Successor = false
+abbrev pub is_nothing : Option Cause → Bool
+is_nothing None = true
+is_nothing (Some cause) = false
 
 -- position p is not at fault
 unfoldable pub whole_at : List ℕ → Program → Module → ℕ → Bool

@@ -4,18 +4,19 @@
 ghost use Rattle.std.specs.Prelude.{◌≡◌, ◌+◌, ◌-◌, ◌≤◌};
 ghost use Rattle.mcode.specs.Image.{base_copy, margin};
 ghost use Rattle.mcode.specs.Machine.{stop_number, stop_code};
+ghost use Rattle.mcode.specs.Answer.{refusal_number};
 
 // A place in the data store, counted in words.
-#[derive(Clone, Copy)]
+#[derive(Clone, Copy, PartialEq, Eq)]
 pub struct Address(pub u16);
 
 // A place in a module's code, counted in bytes.
-#[derive(Clone, Copy)]
+#[derive(Clone, Copy, PartialEq, Eq)]
 pub struct Position(pub u16);
 
 // The registers: module number, position, frame L, stack pointer S, limit H, process P, mask M, and how many words the
 // expression stack has.
-#[derive(Clone, Copy)]
+#[derive(Clone, Copy, PartialEq, Eq)]
 pub struct Registers {
     pub unit: u8,
     pub pc: Position,
@@ -27,7 +28,7 @@ pub struct Registers {
     pub depth: usize,
 }
 
-#[derive(Clone, Copy)]
+#[derive(Clone, Copy, PartialEq, Eq)]
 pub struct Machine {
     pub registers: Registers,
     pub stack: [u16; 16],
@@ -58,7 +59,7 @@ impl Machine {
 }
 
 // Why a run stopped. Program holds the program's own code.
-#[derive(Clone, Copy)]
+#[derive(Clone, Copy, PartialEq, Eq)]
 pub enum Stop {
     Spent,
     Ended,
@@ -73,71 +74,84 @@ pub enum Stop {
     Program(u16),
 }
 
-// The paper's number of a stop.
-pub fn stop_number(stop: Stop) -> u16
-    ensures { result ≡ stop_number stop }
-{
-    match stop {
-        Stop::Spent => 30,
-        Stop::Ended => 31,
-        Stop::BadAddress => 32,
-        Stop::StackLimit => 33,
-        Stop::ReturnMark => 34,
-        Stop::BadProcess => 35,
-        Stop::ZeroDivisor => 36,
-        Stop::ResultRange => 37,
-        Stop::CheckFailed => 38,
-        Stop::BadChannel => 39,
-        Stop::Program(_) => 40,
+impl Stop {
+    // The paper's number.
+    pub fn number(self) -> u16
+        ensures { result ≡ stop_number self }
+    {
+        match self {
+            Stop::Spent => 30,
+            Stop::Ended => 31,
+            Stop::BadAddress => 32,
+            Stop::StackLimit => 33,
+            Stop::ReturnMark => 34,
+            Stop::BadProcess => 35,
+            Stop::ZeroDivisor => 36,
+            Stop::ResultRange => 37,
+            Stop::CheckFailed => 38,
+            Stop::BadChannel => 39,
+            Stop::Program(_) => 40,
+        }
+    }
+
+    // 0 but for the program's own.
+    pub fn code(self) -> u16
+        ensures { result ≡ stop_code self }
+    {
+        match self {
+            Stop::Program(code) => code,
+            _ => 0,
+        }
     }
 }
 
-// The code of a stop: 0 but for the program's own.
-pub fn stop_code(stop: Stop) -> u16
-    ensures { result ≡ stop_code stop }
-{
-    match stop {
-        Stop::Spent => 0,
-        Stop::Ended => 0,
-        Stop::BadAddress => 0,
-        Stop::StackLimit => 0,
-        Stop::ReturnMark => 0,
-        Stop::BadProcess => 0,
-        Stop::ZeroDivisor => 0,
-        Stop::ResultRange => 0,
-        Stop::CheckFailed => 0,
-        Stop::BadChannel => 0,
-        Stop::Program(code) => code,
+// Why an image, a map, a store or a machine is refused. NotWhole has the module and the position at fault.
+#[derive(Clone, Copy, PartialEq, Eq)]
+pub enum Refusal {
+    ImageSize,
+    ModuleCount,
+    ImageEnds,
+    BytesAfter,
+    BitMap,
+    Field,
+    MapShort,
+    NoDepths,
+    StoreSize,
+    ChannelCount,
+    NotAMachine,
+    MapUnfit,
+    NotWhole(u8, Position),
+    OutputShort,
+}
+
+impl Refusal {
+    // The paper's number.
+    pub fn number(self) -> u16
+        ensures { result ≡ refusal_number self }
+    {
+        match self {
+            Refusal::ImageSize => 1,
+            Refusal::ModuleCount => 2,
+            Refusal::ImageEnds => 3,
+            Refusal::BytesAfter => 4,
+            Refusal::BitMap => 5,
+            Refusal::Field => 6,
+            Refusal::MapShort => 7,
+            Refusal::NoDepths => 8,
+            Refusal::StoreSize => 9,
+            Refusal::ChannelCount => 10,
+            Refusal::NotAMachine => 11,
+            Refusal::MapUnfit => 12,
+            Refusal::NotWhole(_, _) => 13,
+            Refusal::OutputShort => 14,
+        }
     }
 }
 
-// How a run answers: refused, with the refusal's number, or stopped.
-#[derive(Clone, Copy)]
-pub enum Ending {
-    Refused(u16),
-    Stopped(Stop),
-}
-
-// What load answers: the number of the refusal, or 0; with 13 the module and the position at fault, which are both 0 in any other answer.
-#[derive(Clone, Copy)]
-pub struct Verdict {
-    pub number: u16,
-    pub unit: u8,
-    pub pc: Position,
-}
-
-// What a call that fills an output slice answers: the number of the refusal, or 0, and the length written, 0 where it refuses.
-#[derive(Clone, Copy)]
-pub struct Delivered {
-    pub number: u16,
-    pub length: usize,
-}
-
-// What is wrong with an instruction, whatever the depth: nothing, its opcode is not listed, its operands lie outside the code, a module or
-// a procedure that it names is missing, or a successor lies outside the code.
-#[derive(Clone, Copy)]
+// What is wrong with an instruction, whatever the depth: its opcode is not listed, its operands lie outside the code, a module or a
+// procedure that it names is missing, or a successor lies outside the code.
+#[derive(Clone, Copy, PartialEq, Eq)]
 pub enum Cause {
-    Nothing,
     Opcode,
     Operands,
     Name,
@@ -146,7 +160,7 @@ pub enum Cause {
 
 // A module of an image: where its code begins in the image and how long it is, the words of its data, its base in the store,
 // the count of its procedure records (0: none, and procedure 0 enters at 0), and where they begin in the image.
-#[derive(Clone, Copy)]
+#[derive(Clone, Copy, PartialEq, Eq)]
 pub struct Module {
     pub code: usize,
     pub length: u16,
@@ -160,36 +174,15 @@ pub struct Module {
 pub const MOST_MODULES: usize = 21;
 
 // The modules of an image, and the word after the last one's data.
-#[derive(Clone, Copy)]
+#[derive(Clone, Copy, PartialEq, Eq)]
 pub struct Program {
     pub count: usize,
     pub end: usize,
     pub modules: [Module; MOST_MODULES],
 }
 
-// What reading one part of an image finds: its value and the next position, or a refusal.
-#[derive(Clone, Copy)]
-pub enum Part {
-    Got(u16, usize),
-    Refused(u16),
-}
-
-// What reading one module finds.
-#[derive(Clone, Copy)]
-pub enum Head {
-    Read(Module, usize),
-    Refused(u16),
-}
-
-// What reading an image finds: a refusal (0: none) beside the program, since an enum holds no array.
-#[derive(Clone, Copy)]
-pub struct Parsed {
-    pub refusal: u16,
-    pub program: Program,
-}
-
 // What follows an instruction at a depth: it breaks a rule, it has no successor, or successors with their marks.
-#[derive(Clone, Copy)]
+#[derive(Clone, Copy, PartialEq, Eq)]
 pub enum Flow {
     Fault,
     Ends,
@@ -198,10 +191,6 @@ pub enum Flow {
 }
 
 // A computed word, or the trap that stands in its place.
-#[derive(Clone, Copy)]
-pub enum Value {
-    Is(u16),
-    Fault(Stop),
-}
+pub type Value = Result<u16, Stop>;
 
 pub mod opcode;

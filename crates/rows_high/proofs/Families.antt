@@ -14,7 +14,7 @@ use Rattle.mcode.specs.Machine.{machine, second, top, replace2}
 use Rattle.mcode.specs.Decode.{Action, decode_of, sized, Two, Double, row8, row10, row11, row12, row13}
 use Rattle.mcode.specs.Step.{Lent, perform_of}
 use Rattle.mcode.specs.declared.Registers.{Registers}
-use Rattle.mcode.specs.declared.Value.{Value}
+use Rattle.mcode.specs.Word.{Value}
 use Rattle.actions.specs.declared.Core.{Core}
 use Rattle.actions.specs.Core.{Left, shown, replaced, instruction}
 use Rattle.mcode.proofs.Tests.{and_both}

@@ -9,11 +9,12 @@ use borrow.Author.Tests.{le-leb, lt-leb, le-ltb, eqb-true, eqb-false, ne_eqb}
 use lib.Dec.{eqb, ltb, leb}
 use lib.ListN.{get_or}
 use lib.Bits.{or_zero_r}
+use Rattle.std.specs.Prelude.{Ok, Err}
 use Rattle.mcode.specs.Word.{pick, and, all_below}
 use Rattle.mcode.specs.Opcode.{lengths}
 use Rattle.mcode.proofs.Listed.{None, among, left, one_left}
 use Rattle.actions.specs.declared.Core.{Core}
-use Rattle.actions.specs.Core.{read_at, unites}
+use Rattle.actions.specs.Core.{Stepped, read_at, unites}
 
 pub is202 : (op : ℕ) → op / 16 ≡ 8 → op < 0o203 → None (0o201 ∷ 0o200 ∷ []) op → op ≡ 0o202
 is202 op e h n = omega (arith, e, h, n.0.1, n.1)
@@ -68,12 +69,9 @@ unfolding all_below left among lengths
 is336 op h e l n = one_left (λ (op : ℕ). ltb op 0o323) (0o333 ∷ 0o332 ∷ 0o331 ∷ 0o330 ∷ 0o327 ∷ 0o323 ∷ []) 13 0o336 op refl h e l (le-ltb op 0o323 n)
 
 -- what is no READ leaves the word of channels
-pub takes_none : (op : ℕ) (r : Core) (stack : List ℕ) (stop w : ℕ) → (op ≡ 0o240 → ⊥) → w ≡ unites stop w (read_at op r stack)
-takes_none op r stack stop w n = rw (ne_eqb op 0o240 n, or_zero_r w) (same (eqb stop 0))
-  where
-    same : (t : Bool) → w ≡ pick t w w
-    same true = refl
-    same false = refl
+pub takes_none : (op : ℕ) (r : Core) (stack : List ℕ) (q : Stepped) (w : ℕ) → (op ≡ 0o240 → ⊥) → w ≡ unites q w (read_at op r stack)
+takes_none op r stack (Ok q) w n = rw (ne_eqb op 0o240 n, or_zero_r w) refl
+takes_none op r stack (Err k) w n = refl
 
 -- the next place is in the code too
 pub next-own : {s p : ℕ} → s ≤ p → s ≤ p + 1

@@ -3,14 +3,14 @@ ghost use Rattle.std.specs.Prelude.{◌≡◌, ℕ, ◌+◌, ◌-◌, ◌≤◌,
 ghost use Rattle.mcode.specs.Opcode.{lengths};
 ghost use Rattle.mcode.specs.Step.{Lent};
 ghost use Rattle.mcode.specs.Word.{and};
-ghost use Rattle.actions.specs.Core.{result_of, instruction, read_at, unites, operand_at};
+ghost use Rattle.actions.specs.Core.{result_of, after, instruction, read_at, unites, operand_at};
 ghost use Rattle.actions.specs.Table.{Anchored, Lends, Ready};
 ghost use Rattle.control.specs.Frames.{Framed};
 ghost use Rattle.control.specs.Table.{Mapped};
 
 use actions::channels::{read, write};
-use actions::compute::{three, two};
-use actions::leaf::{operand, second_of, third_of, top_of};
+use actions::compute::computed;
+use actions::leaf::{nth_of, operand};
 use actions::{Core, Stepped, TABLE_WORDS};
 use control::transfer::transfer;
 use words::sides::compared;
@@ -20,10 +20,7 @@ use words::unsigned::within;
 fn compares(op: u8) -> bool
     ensures { result ≡ and (leb 0o252 op) (leb op 0o255) }
 {
-    if op < 0o252 {
-        return false;
-    }
-    op <= 0o255
+    0o252 <= op && op <= 0o255
 }
 
 // 240 reads an input, 241 writes an output; 245 checks an unsigned range; 252 to 255 unsigned <, <=, >, >=; 256 transfers.
@@ -46,17 +43,17 @@ pub fn row10(
     requires mapped { Mapped table.now map.now }
     requires framed { Framed table.now (length store.old) r }
     requires anchored { Anchored table.now r }
-    ensures { ((lent : Lent) → Lends image.now table.now map.now inputs.now lent → result_of result stack.new store.new outputs.new ≡ instruction lent op (operand_at image.now r) r stack.old store.old outputs.old) × (taken.new ≡ unites result.stop taken.old (read_at op r stack.old)) × Anchored table.now result.core }
+    ensures { ((lent : Lent) → Lends image.now table.now map.now inputs.now lent → result_of r result stack.new store.new outputs.new ≡ instruction lent op (operand_at image.now r) r stack.old store.old outputs.old) × (taken.new ≡ unites result taken.old (read_at op r stack.old)) × Anchored table.now (after r result) }
 {
     let to = r.pc + 1;
     if op == 0o241 {
         return write(r, stack, outputs, to);
     }
     if compares(op) {
-        return two(
+        return computed::<1>(
             r,
             stack,
-            compared(op, second_of(r, stack), top_of(r, stack)),
+            compared(op, nth_of::<1>(r, stack), nth_of::<0>(r, stack)),
             to,
         );
     }
@@ -66,10 +63,14 @@ pub fn row10(
     if op == 0o240 {
         return read(r, stack, store, inputs, taken, to);
     }
-    three(
+    computed::<2>(
         r,
         stack,
-        within(third_of(r, stack), second_of(r, stack), top_of(r, stack)),
+        within(
+            nth_of::<2>(r, stack),
+            nth_of::<1>(r, stack),
+            nth_of::<0>(r, stack),
+        ),
         to,
     )
 }

@@ -2,7 +2,7 @@
 ghost use Rattle.std.specs.Prelude.{◌≡◌, List, ℕ, ◌≤◌, ◌/◌, length, get_or};
 ghost use Rattle.mcode.specs.Opcode.{lengths};
 ghost use Rattle.mcode.specs.Step.{Lent};
-ghost use Rattle.actions.specs.Core.{result_of, instruction, operand_at, Stays};
+ghost use Rattle.actions.specs.Core.{result_of, after, instruction, operand_at, Stays};
 ghost use Rattle.actions.specs.Table.{Ready};
 
 use actions::bytes::{load_byte, save_byte};
@@ -18,7 +18,7 @@ pub fn row8(op: u8, r: Core, image: &[u8], stack: &mut [u16; 16], store: &[u16])
     requires bound { 1 ≤ get_or lengths op 0 }
     requires ready { Ready op r (length image.now) }
     requires store_len_bound { length store.now ≤ 65535 }
-    ensures { ((lent : Lent) (out : List ℕ) → result_of result stack.new store.now out ≡ instruction lent op (operand_at image.now r) r stack.old store.now out) × Stays r result.core }
+    ensures { ((lent : Lent) (out : List ℕ) → result_of r result stack.new store.now out ≡ instruction lent op (operand_at image.now r) r stack.old store.now out) × Stays r (after r result) }
 {
     if op < 0o203 {
         return match op {
@@ -42,7 +42,7 @@ pub fn row9(op: u8, r: Core, image: &[u8], stack: &mut [u16; 16], store: &mut [u
     requires bound { 1 ≤ get_or lengths op 0 }
     requires ready { Ready op r (length image.now) }
     requires store_len_bound { length store.old ≤ 65535 }
-    ensures { ((lent : Lent) (out : List ℕ) → result_of result stack.new store.new out ≡ instruction lent op (operand_at image.now r) r stack.old store.old out) × Stays r result.core }
+    ensures { ((lent : Lent) (out : List ℕ) → result_of r result stack.new store.new out ≡ instruction lent op (operand_at image.now r) r stack.old store.old out) × Stays r (after r result) }
 {
     if op < 0o223 {
         return match op {

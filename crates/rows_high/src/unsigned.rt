@@ -3,13 +3,13 @@ ghost use Rattle.std.specs.Prelude.{◌≡◌, List, ℕ, ◌≤◌, ◌<◌, �
 ghost use Rattle.mcode.specs.Opcode.{lengths};
 ghost use Rattle.mcode.specs.Depths.{front_of, entry};
 ghost use Rattle.mcode.specs.Step.{Lent};
-ghost use Rattle.actions.specs.Core.{result_of, instruction, Stays};
+ghost use Rattle.actions.specs.Core.{result_of, after, instruction, Stays};
 ghost use Rattle.actions.specs.Table.{Anchored, Lends};
 ghost use Rattle.control.specs.Frames.{Roomy};
 ghost use Rattle.rows_high.specs.Rows.{Stacked};
 
-use actions::compute::{copy, replace_two, two};
-use actions::leaf::{second_of, top_of};
+use actions::compute::{computed, copy};
+use actions::leaf::{nth_of, replace};
 use actions::{Core, Stepped};
 use control::saves::{fetch, save};
 use words::bits::{rotate, shl, shr};
@@ -22,15 +22,15 @@ pub fn row11(op: u8, r: Core, map: &[u32], stack: &mut [u16; 16], store: &mut [u
     requires stacked { Stacked op r }
     requires roomy { Roomy (length store.old) r }
     requires pc_in_bounds { (r.pc < length map.now) × (op ≡ 0o260 → front_of (entry map.now r.pc) ≤ 15) }
-    ensures { ((lent : Lent) (bytes numbers words : List ℕ) → Lends bytes numbers map.now words lent → Anchored numbers r → (o : ℕ → ℕ) (out : List ℕ) → result_of result stack.new store.new out ≡ instruction lent op o r stack.old store.old out) × Stays r result.core }
+    ensures { ((lent : Lent) (bytes numbers words : List ℕ) → Lends bytes numbers map.now words lent → Anchored numbers r → (o : ℕ → ℕ) (out : List ℕ) → result_of r result stack.new store.new out ≡ instruction lent op o r stack.old store.old out) × Stays r (after r result) }
 {
     let to = r.pc + 1;
     if op < 0o273 {
         if 0o267 < op {
-            return two(
+            return computed::<1>(
                 r,
                 stack,
-                sums(op, second_of(r, stack), top_of(r, stack)),
+                sums(op, nth_of::<1>(r, stack), nth_of::<0>(r, stack)),
                 to,
             );
         }
@@ -42,14 +42,39 @@ pub fn row11(op: u8, r: Core, map: &[u32], stack: &mut [u16; 16], store: &mut [u
     }
     if op < 0o275 {
         return if op == 0o274 {
-            two(r, stack, rem(second_of(r, stack), top_of(r, stack)), to)
+            computed::<1>(
+                r,
+                stack,
+                rem(nth_of::<1>(r, stack), nth_of::<0>(r, stack)),
+                to,
+            )
         } else {
-            two(r, stack, div(second_of(r, stack), top_of(r, stack)), to)
+            computed::<1>(
+                r,
+                stack,
+                div(nth_of::<1>(r, stack), nth_of::<0>(r, stack)),
+                to,
+            )
         };
     }
     match op {
-        0o275 => replace_two(r, stack, rotate(second_of(r, stack), top_of(r, stack)), to),
-        0o276 => replace_two(r, stack, shl(second_of(r, stack), top_of(r, stack)), to),
-        _ => replace_two(r, stack, shr(second_of(r, stack), top_of(r, stack)), to),
+        0o275 => replace::<1>(
+            r,
+            stack,
+            rotate(nth_of::<1>(r, stack), nth_of::<0>(r, stack)),
+            to,
+        ),
+        0o276 => replace::<1>(
+            r,
+            stack,
+            shl(nth_of::<1>(r, stack), nth_of::<0>(r, stack)),
+            to,
+        ),
+        _ => replace::<1>(
+            r,
+            stack,
+            shr(nth_of::<1>(r, stack), nth_of::<0>(r, stack)),
+            to,
+        ),
     }
 }

@@ -5,115 +5,96 @@ ghost use Rattle.mcode.specs.Run.{run_of};
 ghost use Rattle.mcode.specs.Demands.{joined};
 ghost use Rattle.engine.specs.Ran.{answered};
 
-use crate::show::put_step;
-use console::options::is_spent;
+use crate::show::Show;
 use engine::run::{Ran, run};
-use listing::block::Block;
-use listing::streams::Streams;
-use mcode::{Machine, Program};
+use mcode::{Machine, Program, Stop};
+
+// An image with its program, the map that load filled for it, and the inputs.
+#[derive(Drop)]
+pub struct Loaded<'a> {
+    pub image: &'a [u8],
+    pub program: Program,
+    pub map: &'a [u32],
+    pub inputs: &'a [u16],
+}
+
+// A part of a run: at most so many steps from a machine, with these requests; `earlier` steps were made before it.
+#[derive(Clone, Copy)]
+pub struct Part {
+    pub machine: Machine,
+    pub requests: u16,
+    pub steps: u32,
+    pub earlier: u32,
+}
 
 // Up to m steps more, with the requests that are left; their counts add, and the channels are united.
-fn more(
-    ran: Ran,
-    image: &[u8],
-    map: &[u32],
-    store: &mut [u16],
-    outputs: &mut [u16],
-    inputs: &[u16],
-    m: u32,
-) -> Ran
+fn more(ran: Ran, loaded: &Loaded, store: &mut [u16], outputs: &mut [u16], m: u32) -> Ran
     requires { ran.count + m ≤ 4294967295 }
-    ensures { answered result store.new outputs.new ≡ joined (answered ran store.old outputs.old) (run_of image.now map.now inputs.now m (live (state ran.machine store.old outputs.old) ran.requests)) }
+    ensures { answered result store.new outputs.new ≡ joined (answered ran store.old outputs.old) (run_of loaded.now.image.now loaded.now.map.now loaded.now.inputs.now m (live (state ran.machine store.old outputs.old) ran.requests)) }
 {
-    let machine = ran.machine;
-    let next = run(machine, image, map, store, outputs, inputs, m, ran.requests);
-    let ending = next.ending;
-    let after = next.machine;
+    let next = run(
+        ran.machine,
+        loaded.image,
+        loaded.map,
+        store,
+        outputs,
+        loaded.inputs,
+        m,
+        ran.requests,
+    );
     Ran {
-        ending,
         count: ran.count + next.count,
-        machine: after,
-        requests: next.requests,
         channels: ran.channels | next.channels,
+        ..next
     }
 }
 
-// A run of `done` steps, made one at a time.
-#[derive(Clone, Copy)]
-struct Done {
-    ran: Ran,
-    done: u32,
-}
-
-// Up to n steps, each of which is shown; `earlier` steps were made before.
+// The steps, one at a time, each of which is shown, up to one that finds a stop; and of how many steps that is a run.
 fn turns(
-    machine: Machine,
-    image: &[u8],
-    map: &[u32],
+    part: Part,
+    loaded: &Loaded,
     store: &mut [u16],
     outputs: &mut [u16],
-    inputs: &[u16],
-    n: u32,
-    requests: u16,
-    program: Program,
-    limit: u32,
-    earlier: u32,
-    before: &mut [u16],
-    last: &mut [u16],
-    streams: Streams,
-    out: &mut Block,
-    used: &mut usize,
-) -> Done
-    ensures { (answered result.ran store.new outputs.new ≡ run_of image.now map.now inputs.now result.done (live (state machine store.old outputs.old) requests)) × (result.done ≤ n) }
+    show: &mut Show,
+) -> (Ran, u32)
+    ensures { (answered result.0 store.new outputs.new ≡ run_of loaded.now.image.now loaded.now.map.now loaded.now.inputs.now result.1 (live (state part.machine store.old outputs.old) part.requests)) × (result.1 ≤ part.steps) }
 {
-    let mut ran = run(machine, image, map, store, outputs, inputs, 0, requests);
-    let mut done = 0u32;
-    while done < n {
-        let next = more(ran, image, map, store, outputs, inputs, 1);
-        put_step(
-            streams, out, used, ran, next, program, image, limit, earlier, before, store, last,
-            outputs,
-        );
+    let steps = part.steps;
+    let mut ran = run(
+        part.machine,
+        loaded.image,
+        loaded.map,
+        store,
+        outputs,
+        loaded.inputs,
+        0,
+        part.requests,
+    );
+    for done in 0..steps {
+        let next = more(ran, loaded, store, outputs, 1);
+        show.put_step(loaded, &ran, &next, part.earlier, store, outputs);
         ran = next;
-        done += 1;
-        let ending = ran.ending;
-        if !is_spent(ending) {
-            return Done { ran, done };
+        if ran.ending != Ok(Stop::Spent) {
+            return (ran, done + 1);
         }
     }
-    Done { ran, done }
+    (ran, steps)
 }
 
-// A run of n steps, each of which is shown: it answers and leaves what one run of n steps does. Where it stops before, the rest of
+// A part of a run, each step of which is shown: it answers and leaves what one run of its steps does. Where it stops before, the rest of
 // the budget is run from there, which finds the same stop.
 pub fn traced(
-    machine: Machine,
-    image: &[u8],
-    map: &[u32],
+    part: Part,
+    loaded: &Loaded,
     store: &mut [u16],
     outputs: &mut [u16],
-    inputs: &[u16],
-    n: u32,
-    requests: u16,
-    program: Program,
-    limit: u32,
-    earlier: u32,
-    before: &mut [u16],
-    last: &mut [u16],
-    streams: Streams,
-    out: &mut Block,
-    used: &mut usize,
+    show: &mut Show,
 ) -> Ran
-    ensures { answered result store.new outputs.new ≡ run_of image.now map.now inputs.now n (live (state machine store.old outputs.old) requests) }
+    ensures { answered result store.new outputs.new ≡ run_of loaded.now.image.now loaded.now.map.now loaded.now.inputs.now part.steps (live (state part.machine store.old outputs.old) part.requests) }
 {
-    let t = turns(
-        machine, image, map, store, outputs, inputs, n, requests, program, limit, earlier, before,
-        last, streams, out, used,
-    );
-    let ran = t.ran;
-    let done = t.done;
-    if done < n {
-        return more(ran, image, map, store, outputs, inputs, n - done);
+    let (ran, done) = turns(part, loaded, store, outputs, show);
+    if done < part.steps {
+        return more(ran, loaded, store, outputs, part.steps - done);
     }
     ran
 }

@@ -1,144 +1,117 @@
-// The numbers of a file of words on standard input, high byte first. The bytes pass through a buffer, which is filled again when
-// all of it has been taken.
+// The numbers of a file of words on standard input, high byte first. The bytes pass through a buffer, which is filled again when all of it
+// has been taken. Where the file is cut off, or a number is above its limit, the answer is None, and nothing that follows counts.
+ghost use Rattle.std.specs.Prelude.{◌≤◌, IfSome};
+
+use arrayvec::ArrayVec;
 use std::io::{Read, Stdin};
 
-// How far the buffer has been taken and filled, the number that was taken last, and whether the file was good so far: not cut off,
-// and no number above its limit.
-#[derive(Clone, Copy)]
+// No image, map, output or store of a case is longer.
+pub const MOST: usize = 65600;
+
+// The bytes of the buffer from `at` to `end` are still to be taken.
+#[derive(Drop)]
 pub struct Input {
-    pub at: usize,
-    pub end: usize,
-    pub number: u32,
-    pub good: bool,
+    stdin: Stdin,
+    buffer: [u8; 4096],
+    at: usize,
+    end: usize,
+    ghost taken: { at ≤ end },
+    ghost filled: { end ≤ 4096 },
 }
 
-// Where the file is cut off or wrong: nothing that follows counts.
-fn bad() -> Input {
-    Input {
-        at: 0,
-        end: 0,
-        number: 0,
-        good: false,
+// A number that the file has in its words.
+pub trait Number: Copy + Drop {
+    fn next(input: &mut Input) -> Option<Self>;
+}
+
+impl Number for u16 {
+    fn next(input: &mut Input) -> Option<u16> {
+        input.word()
     }
 }
 
-// Reads until the buffer is full, the input ends or a read fails. Answers how many bytes were read.
-fn read_full(stdin: Stdin, buffer: &mut [u8; 4096]) -> usize {
-    let mut from = stdin;
-    let mut done: usize = 0;
-    while done < 4096 {
-        match from.read(&mut buffer[done..]) {
-            Ok(more) => {
-                if more == 0 {
-                    return done;
-                }
-                done += more;
-            }
-            Err(_) => {
-                return done;
+// The low byte of a word.
+impl Number for u8 {
+    fn next(input: &mut Input) -> Option<u8> {
+        let [_, low] = input.word()?.to_be_bytes();
+        Some(low)
+    }
+}
+
+// Two words, the high one first.
+impl Number for u32 {
+    fn next(input: &mut Input) -> Option<u32> {
+        let high = input.word()?;
+        let low = input.word()?;
+        Some(high as u32 * 65536 + low as u32)
+    }
+}
+
+impl Input {
+    pub fn new(stdin: Stdin) -> Input {
+        Input {
+            stdin,
+            buffer: [0; 4096],
+            at: 0,
+            end: 0,
+        }
+    }
+
+    // Reads until the buffer is full, the input ends or a read fails.
+    fn fill(&mut self) {
+        self.at = 0;
+        self.end = 0;
+        while self.end < 4096 {
+            match self.stdin.read(&mut self.buffer[self.end..]) {
+                Ok(0) | Err(_) => return,
+                Ok(count) => self.end += count,
             }
         }
     }
-    done
-}
 
-// Reads on where the whole buffer has been taken.
-fn filled(stdin: Stdin, buffer: &mut [u8; 4096], from: Input) -> Input {
-    let at = from.at;
-    let end = from.end;
-    if at < end {
-        return from;
+    // The next word.
+    fn word(&mut self) -> Option<u16> {
+        if self.at == self.end {
+            self.fill();
+        }
+        let pair = self.buffer[self.at..self.end].first_chunk()?;
+        let word = u16::from_be_bytes(*pair);
+        self.at += 2;
+        Some(word)
     }
-    let count = read_full(stdin, buffer);
-    Input {
-        at: 0,
-        end: count,
-        number: 0,
-        good: from.good,
+
+    // The next number of any kind.
+    pub fn number<T: Number>(&mut self) -> Option<T> {
+        T::next(self)
     }
-}
 
-// Takes a word from the buffer.
-fn taken(buffer: &[u8; 4096], from: Input) -> Input {
-    let at = from.at;
-    let end = from.end;
-    if 4095 <= at {
-        return bad();
+    // Whether the next word is not 0.
+    pub fn flag(&mut self) -> Option<bool> {
+        Some(self.word()? != 0)
     }
-    if end <= at + 1 {
-        return bad();
+
+    // The next length of an image, a map, an output or a store.
+    pub fn length(&mut self) -> Option<usize>
+        ensures { IfSome result (λ n. n ≤ MOST) }
+    {
+        let n = self.number::<u32>()? as usize;
+        if n <= MOST { Some(n) } else { None }
     }
-    let high = buffer[at];
-    let low = buffer[at + 1];
-    Input {
-        at: at + 2,
-        end,
-        number: pair(high, low),
-        good: from.good,
+
+    // A list: its length, of at most N, and its words.
+    pub fn list<const N: usize>(&mut self) -> Option<ArrayVec<u16, N>> {
+        let mut words = ArrayVec::new();
+        for _ in 0..self.word()? {
+            words.try_push(self.word()?).ok()?;
+        }
+        Some(words)
     }
-}
 
-fn pair(high: u8, low: u8) -> u32 {
-    high as u32 * 256 + low as u32
-}
-
-// The next word.
-pub fn next_word(stdin: Stdin, buffer: &mut [u8; 4096], from: Input) -> Input {
-    let next = filled(stdin, buffer, from);
-    taken(buffer, next)
-}
-
-// The next long number: two words, the high one first.
-pub fn next_long(stdin: Stdin, buffer: &mut [u8; 4096], from: Input) -> Input {
-    let high = next_word(stdin, buffer, from);
-    let low = next_word(stdin, buffer, high);
-    let number = (high.number % 65536) * 65536 + low.number % 65536;
-    Input {
-        at: low.at,
-        end: low.end,
-        number,
-        good: low.good,
+    // The start of the file: 4D43 hex, the format's number 5, and the number of cases.
+    pub fn header(&mut self) -> Option<u32> {
+        if self.word()? != 0x4D43 || self.word()? != 5 {
+            return None;
+        }
+        self.number()
     }
-}
-
-// The same place, where the number taken last is not above the limit.
-pub fn limited(from: Input, most: u32) -> Input {
-    let number = from.number;
-    if most < number {
-        return bad();
-    }
-    from
-}
-
-// The next length of an image, a map or a store.
-pub fn next_length(stdin: Stdin, buffer: &mut [u8; 4096], from: Input) -> Input {
-    let next = next_long(stdin, buffer, from);
-    limited(next, 65600)
-}
-
-// The start of the file: 4D43 hex, the format's number 5, and the number of cases.
-pub fn header(stdin: Stdin, buffer: &mut [u8; 4096]) -> Input {
-    let begin = Input {
-        at: 0,
-        end: 0,
-        number: 0,
-        good: true,
-    };
-    let mark = next_word(stdin, buffer, begin);
-    let format = next_word(stdin, buffer, mark);
-    if mark.number != 0x4D43 {
-        return bad();
-    }
-    if format.number != 5 {
-        return bad();
-    }
-    next_long(stdin, buffer, format)
-}
-
-pub fn low_word(number: u32) -> u16 {
-    (number % 65536) as u16
-}
-
-pub fn low_byte(number: u32) -> u8 {
-    (number % 256) as u8
 }

@@ -4,30 +4,19 @@
 
 mod input;
 mod output;
-mod parts;
 mod reading;
 mod replay;
+mod sums;
+
+use crate::input::Input;
+use crate::output::Output;
+use crate::reading::Buffers;
 
 fn main(rt: HostRuntime) {
-    let stdin = rt.stdin();
-    let stdout = rt.stdout();
-    let mut buffer = [0u8; 4096];
-    let mut text = [0u8; 4096];
-    let mut image = [0u8; 65600];
-    let mut map = [0u32; 65600];
-    let mut output = [0u8; 65600];
-    let mut store = [0u16; 65600];
-    let begun = input::header(stdin, &mut buffer);
-    let at = replay::cases(
-        stdin,
-        &mut buffer,
-        begun,
-        stdout,
-        &mut text,
-        &mut image,
-        &mut map,
-        &mut output,
-        &mut store,
-    );
-    output::flush(stdout, &text, at);
+    let mut input = Input::new(rt.stdin());
+    let mut output = Output::new(rt.stdout());
+    let mut buffers = Buffers::new();
+    // Where the file is cut off or wrong, what was printed before stands.
+    let _whole = replay::cases(&mut input, &mut output, &mut buffers);
+    output.flush();
 }

@@ -1,86 +1,100 @@
-// Text for standard output. It is gathered in a buffer, and `at` says how much of it is full.
+// Text for standard output, gathered and written in blocks. A block that cannot be written is lost, and nothing says so.
+use arrayvec::ArrayVec;
+use mcode::Machine;
+use std::fmt;
 use std::io::Stdout;
 
-// Writes what the buffer holds.
-pub fn flush(stdout: Stdout, text: &[u8; 4096], at: usize) {
-    let all: &[u8] = text;
-    if at <= all.len() {
-        let _written = stdout.write_all(&all[0..at]);
+// The text that is still to be written.
+#[derive(Drop)]
+pub struct Output {
+    stdout: Stdout,
+    waiting: ArrayVec<u8, 4096>,
+}
+
+impl Output {
+    pub fn new(stdout: Stdout) -> Output {
+        Output {
+            stdout,
+            waiting: ArrayVec::new(),
+        }
+    }
+
+    // Writes what waits.
+    pub fn flush(&mut self) {
+        let _written = self.stdout.write_all(self.waiting.as_slice());
+        self.waiting.clear();
+    }
+
+    // What a value shows, and the line's end.
+    pub fn line<D: fmt::Display + Drop>(&mut self, shown: D) {
+        let _printed = fmt::Write::writeln(self, shown);
     }
 }
 
-fn put(stdout: Stdout, text: &mut [u8; 4096], at: usize, byte: u8) -> usize {
-    if at < 4096 {
-        text[at] = byte;
-        return at + 1;
+impl fmt::Write for Output {
+    // What finds no room even in an empty block is written at once.
+    fn write_str(&mut self, letters: &str) -> fmt::Result {
+        let bytes = letters.as_bytes();
+        if self.waiting.remaining_capacity() < bytes.len() {
+            self.flush();
+        }
+        if self.waiting.try_extend_from_slice(bytes).is_err() {
+            let _written = self.stdout.write_all(bytes);
+        }
+        Ok(())
     }
-    let _written = stdout.write_all(text);
-    text[0] = byte;
-    1
-}
-
-pub fn put_text(stdout: Stdout, text: &mut [u8; 4096], at: usize, letters: &[u8]) -> usize {
-    let mut next = at;
-    let mut i: usize = 0;
-    while i < letters.len() {
-        next = put(stdout, text, next, letters[i]);
-        i += 1;
-    }
-    next
-}
-
-// A blank and a number.
-pub fn put_number(stdout: Stdout, text: &mut [u8; 4096], at: usize, n: u64) -> usize {
-    let mut digits = [0u8; 20];
-    let count = io::decimal(n, &mut digits);
-    let next = put(stdout, text, at, b' ');
-    put_text(stdout, text, next, &digits[..count])
-}
-
-pub fn put_word(stdout: Stdout, text: &mut [u8; 4096], at: usize, n: u16) -> usize {
-    put_number(stdout, text, at, n as u64)
 }
 
 // Each word after a blank.
-pub fn put_words(stdout: Stdout, text: &mut [u8; 4096], at: usize, words: &[u16]) -> usize {
-    let mut next = at;
-    let mut i: usize = 0;
-    while i < words.len() {
-        next = put_word(stdout, text, next, words[i]);
-        i += 1;
-    }
-    next
-}
+#[derive(Clone, Copy)]
+pub struct Words<'a>(pub &'a [u16]);
 
-fn put_entry(stdout: Stdout, text: &mut [u8; 4096], at: usize, entry: u32) -> usize {
-    let mut digits = [0u8; 16];
-    let count = io::hex(entry as u64, 8, &mut digits);
-    put_text(stdout, text, at, &digits[..count])
+impl fmt::Display for Words<'_> {
+    fn fmt<W: fmt::Write>(&self, f: &mut fmt::Formatter<W>) -> fmt::Result {
+        for word in self.0 {
+            write!(f, " {word}")?;
+        }
+        Ok(())
+    }
 }
 
 // Each entry in hex, eight digits.
-pub fn put_entries(stdout: Stdout, text: &mut [u8; 4096], at: usize, entries: &[u32]) -> usize {
-    let mut next = at;
-    let mut i: usize = 0;
-    while i < entries.len() {
-        next = put_entry(stdout, text, next, entries[i]);
-        i += 1;
+#[derive(Clone, Copy)]
+pub struct Entries<'a>(pub &'a [u32]);
+
+impl fmt::Display for Entries<'_> {
+    fn fmt<W: fmt::Write>(&self, f: &mut fmt::Formatter<W>) -> fmt::Result {
+        for entry in self.0 {
+            write!(f, "{entry:08x}")?;
+        }
+        Ok(())
     }
-    next
 }
 
-// A name and a number.
-pub fn put_named(
-    stdout: Stdout,
-    text: &mut [u8; 4096],
-    at: usize,
-    letters: &[u8],
-    n: u64,
-) -> usize {
-    let next = put_text(stdout, text, at, letters);
-    put_number(stdout, text, next, n)
-}
+// The registers in the order of the file, and the stack without the zeros at its end.
+#[derive(Clone, Copy)]
+pub struct Shown<'a>(pub &'a Machine);
 
-pub fn put_line_end(stdout: Stdout, text: &mut [u8; 4096], at: usize) -> usize {
-    put(stdout, text, at, b'\n')
+impl fmt::Display for Shown<'_> {
+    fn fmt<W: fmt::Write>(&self, f: &mut fmt::Formatter<W>) -> fmt::Result {
+        let r = self.0.registers;
+        let stack = &self.0.stack;
+        let used = stack
+            .iter()
+            .rposition(|word| *word != 0)
+            .map_or(0, |i| i + 1);
+        write!(
+            f,
+            "machine {} {} {} {} {} {} {} {} stack{}",
+            r.unit,
+            r.pc.0,
+            r.depth,
+            r.p.0,
+            r.l.0,
+            r.s.0,
+            r.h.0,
+            r.mask,
+            Words(&stack[..used])
+        )
+    }
 }

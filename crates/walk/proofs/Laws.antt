@@ -3,6 +3,7 @@ use mathlib.Core.Path.{◌≡◌, refl, sym, ap, ◌∙◌, subst}
 use mathlib.Core.Logic.{inl, inr}
 use mathlib.Core.Bool.{Bool, true, false}
 use mathlib.Core.List.{List}
+use Rattle.std.proofs.Common.{Some}
 use Prim.Native.Nat.{ℕ, ◌+◌, ◌≤◌, ◌<◌}
 use native.Mathlib.Decide.{dec_lt}
 use native.Mathlib.Omega.{arith}
@@ -12,16 +13,17 @@ use borrow.Author.Tests.{lt-ltb, le-ltb}
 use Rattle.mcode.specs.declared.Flow.{Flow}
 use Rattle.mcode.specs.declared.Flow.TheVariants.{Fault, Ends, To, Fork}
 use Rattle.mcode.specs.declared.Module.{Module}
-use Rattle.mcode.specs.Word.{pick}
-use Rattle.mcode.specs.Layout.{Sound}
+use Rattle.mcode.specs.Word.{pick, byte}
+use Rattle.mcode.specs.Image.{code_byte}
+use Rattle.depths.specs.declared.code.Code.{Code}
 use Rattle.mcode.specs.Depths.{unmarked, Analysis, mark}
-use Rattle.mcode.specs.Walk.{ways_at, legible, within, walk}
+use Rattle.mcode.specs.Walk.{ways_at, legible, within}
 use Rattle.mcode.proofs.Reached.{Seen, seen-ways, walk-fits}
-use Rattle.depths.specs.declared.Visit.TheVariants.{Tail}
 use Rattle.depths.specs.Queue.{free, Queue, Visited, Stepped}
 use Rattle.depths.proofs.Lists.{free-set}
+use Rattle.depths.proofs.Flows.{code-byte}
 use Rattle.depths.proofs.Theory.{Real, turn-ends, turn-to, turn-fork-first, turn-fork}
-use Rattle.walk.specs.Set.{Noted}
+use Rattle.walk.specs.Set.{walk_of, Noted}
 
 marked-none : (d : ℕ) → d ≡ 0 → d ≡ unmarked → ⊥
 marked-none d x z = omega (arith, x, z)
@@ -32,9 +34,19 @@ noted-room s w t q t' s' w' (inl n) l =
     rw (n.2, n.3, n.4) (simp length-set (omega (arith, l, free-set unmarked s q 0 n.0 n.1 (marked-none 0 refl))), length-set s q 0)
 noted-room s w t q t' s' w' (inr n) l = rw (n.1, n.2, n.3) (l, refl)
 
-module _ (image : List ℕ) (m : Module) where
+-- the bytes of a code are the image's from its beginning on
+pub code-at : (c : Code) (i : ℕ) → byte c.bytes.now i ≡ code_byte c.image.now c.m i
+code-at c i = code-byte c.image.now c.bytes.now c.m.code i c.begins
+
+module _ (c : Code) where
+  abbrev image : List ℕ
+  image = c.image.now
+
+  abbrev m : Module
+  m = c.m
+
   abbrev W : Analysis
-  W = walk image m
+  W = walk_of c
 
   -- where position p leads, in the code or not
   abbrev pub way : ℕ → Flow
@@ -78,43 +90,43 @@ module _ (image : List ℕ) (m : Module) where
   reals k l = marked-none 0 refl
 
   -- a visit of a position in the code is one for the mark 0
-  pub visited : Sound image m → (s w : List ℕ) (h t : ℕ) → Queue W s w h t → (q : ℕ) → q < m.length
-      → (t' : ℕ) (s' w' : List ℕ) → Noted s w t q t' s' w' → Visited unmarked s w t q 0 (Tail t') s' w'
-  visited S s w h t Q q l t' s' w' (inl n) = (n.0, inl (n.1, n.2, n.3, n.4))
-  visited S s w h t Q q l t' s' w' (inr n) =
+  pub visited : (s w : List ℕ) (h t : ℕ) → Queue W s w h t → (q : ℕ) → q < m.length
+      → (t' : ℕ) (s' w' : List ℕ) → Noted s w t q t' s' w' → Visited unmarked s w t q 0 (Some t') s' w'
+  visited s w h t Q q l t' s' w' (inl n) = (n.0, inl (n.1, n.2, n.3, n.4))
+  visited s w h t Q q l t' s' w' (inr n) =
       let i : q < length s = omega (arith, l, Q.sized) in
-      (i, inr (sym (Q.implied q (n.0 i) (replicate m.length 0) (walk-fits image m S)) ∙ get_or-replicate m.length q 0 unmarked l, n.1, n.2, n.3))
+      (i, inr (sym (Q.implied q (n.0 i) (replicate m.length 0) (walk-fits image m c.sound)) ∙ get_or-replicate m.length q 0 unmarked l, n.1, n.2, n.3))
 
   outside : (s w : List ℕ) (t q : ℕ) → length s ≤ q → (t' : ℕ) (s' w' : List ℕ) → Noted s w t q t' s' w' → (s' ≡ s) × (w' ≡ w) × (t' ≡ t)
   outside s w t q l t' s' w' (inl n) = absurd (let z : ⊥ = omega (arith, l, n.0) in z)
   outside s w t q l t' s' w' (inr n) = (n.1, n.2, n.3)
 
   -- the turn at h, whose position leads to g
-  module _ (S : Sound image m) (s w : List ℕ) (h t : ℕ) (Q : Queue W s w h t) (lt : h < t) where
+  module _ (s w : List ℕ) (h t : ℕ) (Q : Queue W s w h t) (lt : h < t) where
     abbrev At : Flow → Type 0
     At f = W.flow (get_or w h 0) (mark W s (get_or w h 0)) ≡ f
 
     at : (g : Flow) → way (get_or w h 0) ≡ g → At (within m.length g)
     at g e = flow-way (get_or w h 0) (mark W s (get_or w h 0)) ∙ ap (within m.length) e
 
-    pub turn-none : (g : Flow) → way (get_or w h 0) ≡ g → within m.length g ≡ Ends → Stepped W (h + 1) s (Tail t) s w
+    pub turn-none : (g : Flow) → way (get_or w h 0) ≡ g → within m.length g ≡ Ends → Stepped W (h + 1) s (Some t) s w
     turn-none g e z = turn-ends W real s w h t Q lt (at g e ∙ z)
 
-    one : (q d : ℕ) → d ≡ 0 → At (within m.length (To q d)) → (t' : ℕ) (s' w' : List ℕ) → Noted s w t q t' s' w' → Stepped W (h + 1) s (Tail t') s' w'
+    one : (q d : ℕ) → d ≡ 0 → At (within m.length (To q d)) → (t' : ℕ) (s' w' : List ℕ) → Noted s w t q t' s' w' → Stepped W (h + 1) s (Some t') s' w'
     one q d z e t' s' w' N = go (dec_lt q m.length)
       where
-        go : Dec (q < m.length) → Stepped W (h + 1) s (Tail t') s' w'
-        go (yes l) = turn-to W real s w h t Q lt q 0 (e ∙ rw (lt-ltb _ _ l, z) refl) (Tail t') s' w' (visited S s w h t Q q l t' s' w' N)
+        go : Dec (q < m.length) → Stepped W (h + 1) s (Some t') s' w'
+        go (yes l) = turn-to W real s w h t Q lt q 0 (e ∙ rw (lt-ltb _ _ l, z) refl) (Some t') s' w' (visited s w h t Q q l t' s' w' N)
         go (no n) =
             let (a, b, c) = outside s w t q (omega (arith, Q.sized)) t' s' w' N in
             rw (a, b, c) (turn-ends W real s w h t Q lt (e ∙ rw (le-ltb q m.length (omega arith)) refl))
 
-    pub turn_one : (q d : ℕ) → way (get_or w h 0) ≡ To q d → (t' : ℕ) (s' w' : List ℕ) → Noted s w t q t' s' w' → Stepped W (h + 1) s (Tail t') s' w'
+    pub turn_one : (q d : ℕ) → way (get_or w h 0) ≡ To q d → (t' : ℕ) (s' w' : List ℕ) → Noted s w t q t' s' w' → Stepped W (h + 1) s (Some t') s' w'
     turn_one q d e = one q d (subst Seen e (seen-way (get_or w h 0))) (at (To q d) e)
 
     -- one way of a fork may lie outside
     pub turn_two : (q d r e : ℕ) → way (get_or w h 0) ≡ Fork q d r e → (t₁ : ℕ) (s₁ w₁ : List ℕ) → Noted s w t q t₁ s₁ w₁
-        → (t' : ℕ) (s' w' : List ℕ) → Noted s₁ w₁ t₁ r t' s' w' → Stepped W (h + 1) s (Tail t') s' w'
+        → (t' : ℕ) (s' w' : List ℕ) → Noted s₁ w₁ t₁ r t' s' w' → Stepped W (h + 1) s (Some t') s' w'
     turn_two q d r e f t₁ s₁ w₁ N t' s' w' N' = go (dec_lt q m.length) (dec_lt r m.length)
       where
         zeros : (d ≡ 0) × (e ≡ 0)
@@ -123,12 +135,12 @@ module _ (image : List ℕ) (m : Module) where
         fork : At (within m.length (Fork q d r e))
         fork = at (Fork q d r e) f
 
-        go : Dec (q < m.length) → Dec (r < m.length) → Stepped W (h + 1) s (Tail t') s' w'
+        go : Dec (q < m.length) → Dec (r < m.length) → Stepped W (h + 1) s (Some t') s' w'
         go (yes k) (yes l) =
             let both : At (Fork q 0 r 0) = fork ∙ rw (lt-ltb _ _ k, lt-ltb _ _ l, zeros.0, zeros.1) refl in
-            let D = visited S s w h t Q q k t₁ s₁ w₁ N in
+            let D = visited s w h t Q q k t₁ s₁ w₁ N in
             let M = (turn-fork-first W real s w h t Q lt q 0 r 0 both t₁ s₁ w₁ D).0 in
-            turn-fork W real s w h t Q lt q 0 r 0 both t₁ s₁ w₁ D (Tail t') s' w' (visited S s₁ w₁ h t₁ M.queue r l t' s' w' N')
+            turn-fork W real s w h t Q lt q 0 r 0 both t₁ s₁ w₁ D (Some t') s' w' (visited s₁ w₁ h t₁ M.queue r l t' s' w' N')
         go (yes k) (no n) =
             let first = one q d zeros.0 (fork ∙ rw (le-ltb r m.length (omega arith)) refl) t₁ s₁ w₁ N in
             let (a, b, c) = outside s₁ w₁ t₁ r (omega (arith, first.0.sized)) t' s' w' N' in

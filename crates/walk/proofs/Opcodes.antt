@@ -1,7 +1,8 @@
 -- What the kind of an opcode says: whether it is listed, and where it leads.
-use mathlib.Core.Path.{◌≡◌, refl, sym, ◌∙◌}
+use mathlib.Core.Path.{◌≡◌, refl, sym, ap, ◌∙◌}
 use mathlib.Core.Bool.{Bool, true, false, not, false≢true}
 use mathlib.Core.List.{List}
+use Rattle.std.proofs.Common.{Some, None}
 use Prim.Native.Nat.{ℕ, ◌+◌, ◌-◌, ◌≤◌, ◌<◌}
 use native.Mathlib.Decide.{dec_lt}
 use native.Mathlib.Omega.{arith}
@@ -12,16 +13,17 @@ use Rattle.mcode.specs.declared.Flow.{Flow}
 use Rattle.mcode.specs.declared.Flow.TheVariants.{Ends, To, Fork}
 use Rattle.mcode.specs.declared.Module.{Module}
 use Rattle.mcode.specs.declared.Program.{Program}
-use Rattle.mcode.specs.declared.Cause.TheVariants.{Nothing, Opcode, Operands, Name, Successor}
+use Rattle.mcode.specs.declared.Cause.TheVariants.{Opcode, Operands, Name, Successor}
 use Rattle.mcode.specs.Word.{pick, and, or}
 use Rattle.mcode.specs.Opcode.{lengths}
 use Rattle.mcode.specs.Image.{code_byte}
 use Rattle.mcode.specs.Depths.{carry, jumps, target}
 use Rattle.mcode.specs.Walk.{seen, ways, ways_at, legible, named, stays_in, cause_at}
 use Rattle.mcode.proofs.Tests.{and_both, refuted}
+use Rattle.depths.specs.declared.code.Code.{Code}
 use Rattle.depths.specs.Cases.{jumping, ending, saving, plain, kind_of}
 use Rattle.depths.proofs.Flows.{of_plain, of-jump, of-last, of_other, of-saves, of_none, saving-plain}
-use Rattle.walk.proofs.Laws.{way}
+use Rattle.walk.proofs.Laws.{code-at, way}
 
 -- a jump for the mark 0 has only marks 0
 carry-jumps : (op t n : ℕ) → carry seen (jumps op t n 0) ≡ jumps op t n 0
@@ -72,18 +74,27 @@ module _ (op k : ℕ) (x : k ≡ kind_of op) where
     ways_next l y z = let (j, h) = onward l y z in rw (h, j) refl
 
 -- where position p leads, whose opcode is op of kind k
-module _ (image : List ℕ) (m : Module) (p k : ℕ) (x : k ≡ kind_of (code_byte image m p)) where
+module _ (c : Code) (p k : ℕ) (kind : k ≡ kind_of (get_or c.bytes.now p 0)) where
+  abbrev image : List ℕ
+  image = c.image.now
+
+  abbrev m : Module
+  m = c.m
+
   abbrev op : ℕ
   op = code_byte image m p
+
+  abbrev x : k ≡ kind_of op
+  x = kind ∙ ap kind_of (code-at c p)
 
   abbrev n : ℕ
   n = p + get_or lengths op 0
 
-  pub way-none : 5 < k → way image m p ≡ Ends
+  pub way-none : 5 < k → way c p ≡ Ends
   unfolding legible
   way-none l = rw (lt-leb 1 (get_or lengths op 0) (let z : get_or lengths op 0 ≡ 0 = eqb-true _ _ (unlisted op k x l) in omega arith)) refl
 
-  pub way-cut : m.length < n → way image m p ≡ Ends
+  pub way-cut : m.length < n → way c p ≡ Ends
   unfolding legible
   way-cut l =
       let a = leb 1 (get_or lengths op 0) in
@@ -91,48 +102,43 @@ module _ (image : List ℕ) (m : Module) (p k : ℕ) (x : k ≡ kind_of (code_by
       rw (refuted (and a b) (λ z. false≢true (sym (lt-leb n m.length l) ∙ (and_both a b z).1))) refl
 
   module _ (some : k ≤ 5) (room : n ≤ m.length) where
-    pub way-is : way image m p ≡ ways_at image m p
+    pub way-is : way c p ≡ ways_at image m p
     unfolding legible
     way-is =
         let z : get_or lengths op 0 ≡ 0 → ⊥ = eqb-false _ _ (listed op k x some) in
         rw (le-leb 1 (get_or lengths op 0) (omega arith), le-leb n m.length room) refl
 
-    pub way-last : k ≡ 3 → way image m p ≡ Ends
+    pub way-last : k ≡ 3 → way c p ≡ Ends
     unfolding ways_at
     way-last l = way-is ∙ ways-last op k x _ _ l
 
-    pub way-jump : k ≡ 2 → way image m p ≡ jumps op (target op (p + 1) (code_byte image m (p + 1)) (code_byte image m (p + 2))) n 0
+    pub way-jump : k ≡ 2 → way c p ≡ jumps op (target op (p + 1) (code_byte image m (p + 1)) (code_byte image m (p + 2))) n 0
     unfolding ways_at
     way-jump l = way-is ∙ ways-jump op k x _ _ l
 
-    pub way_next : (k ≡ 3 → ⊥) → (k ≡ 2 → ⊥) → way image m p ≡ To n 0
+    pub way_next : (k ≡ 3 → ⊥) → (k ≡ 2 → ⊥) → way c p ≡ To n 0
     unfolding ways_at
     way_next y z = way-is ∙ ways_next op k x _ _ some y z
 
--- what is wrong with position p, whose opcode is of kind k
-module _ (image : List ℕ) (program : Program) (m : Module) (p k : ℕ) (x : k ≡ kind_of (code_byte image m p)) where
-  pub cause-none : 5 < k → cause_at image program m p ≡ Opcode
-  unfolding cause_at
-  cause-none l = rw (unlisted (code_byte image m p) k x l) refl
-
-  pub cause-cut : k ≤ 5 → m.length < p + get_or lengths (code_byte image m p) 0 → cause_at image program m p ≡ Operands
-  unfolding cause_at
-  cause-cut l h = rw (listed (code_byte image m p) k x l, lt-ltb _ _ h) refl
-
-  module _ (some : k ≤ 5) (room : p + get_or lengths (code_byte image m p) 0 ≤ m.length) where
-    abbrev names : Bool
-    names = named program m (code_byte image m p) (code_byte image m (p + 1)) (code_byte image m (p + 2))
-
-    pub cause-name : names ≡ false → cause_at image program m p ≡ Name
+  -- what is wrong with position p
+  module _ (program : Program) where
+    pub cause-none : 5 < k → cause_at image program m p ≡ Some Opcode
     unfolding cause_at
-    cause-name n = rw (listed (code_byte image m p) k x some, le-ltb _ _ room, n) refl
+    cause-none l = rw (unlisted op k x l) refl
 
-    -- by the successors
-    pub cause-ways : names ≡ true → (g : Flow) → g ≡ way image m p → cause_at image program m p ≡ pick (not (stays_in m.length g)) Successor Nothing
+    pub cause-cut : k ≤ 5 → m.length < p + get_or lengths op 0 → cause_at image program m p ≡ Some Operands
     unfolding cause_at
-    cause-ways n g e = rw (listed (code_byte image m p) k x some, le-ltb _ _ room, n, e ∙ way-is image m p k x some room) refl
+    cause-cut l h = rw (listed op k x l, lt-ltb _ _ h) refl
 
--- a test of one of two numbers
-pub either : (x : Bool) (a b n : ℕ) → ltb (pick x a b) n ≡ pick x (ltb a n) (ltb b n)
-either true a b n = refl
-either false a b n = refl
+    module _ (some : k ≤ 5) (room : p + get_or lengths op 0 ≤ m.length) where
+      abbrev names : Bool
+      names = named program m op (code_byte image m (p + 1)) (code_byte image m (p + 2))
+
+      pub cause-name : names ≡ false → cause_at image program m p ≡ Some Name
+      unfolding cause_at
+      cause-name n = rw (listed op k x some, le-ltb _ _ room, n) refl
+
+      -- by the successors
+      pub cause-ways : names ≡ true → (g : Flow) → g ≡ way c p → cause_at image program m p ≡ pick (not (stays_in m.length g)) (Some Successor) None
+      unfolding cause_at
+      cause-ways n g e = rw (listed op k x some, le-ltb _ _ room, n, e ∙ way-is some room) refl

@@ -3,45 +3,35 @@ ghost use Rattle.std.specs.Prelude.{◌≡◌, ◌≤◌, ◌<◌, ltb};
 ghost use Rattle.mcode.specs.Word.{and};
 ghost use Rattle.mcode.specs.Image.{most_modules, module_of, proc_count};
 ghost use Rattle.mcode.specs.Walk.{named, stays_in, cause_at, whole_at};
-ghost use Rattle.walk.specs.Set.{counted, Known};
 
 use crate::ways::ways_at;
-use depths::kinds::SAVES;
-use depths::rules::{byte_at, callee_of, kind_of, length_of, names_module, proc_count, wide};
-use mcode::{Cause, Flow, MOST_MODULES, Module};
+use depths::code::Code;
+use depths::kinds::{SAVES, row_of};
+use depths::rules::{byte_at, callee_of, names_module, proc_count};
+use mcode::{Cause, Flow, Module, Program};
 
 // Whether module k has a procedure i.
-fn has_procedure(k: usize, i: usize, count: usize, procs: &[u16; MOST_MODULES]) -> bool
-    requires { count ≤ most_modules }
-    ensures { result ≡ and (ltb k count) (ltb i (proc_count (module_of (counted count procs.now) k))) }
+fn has_procedure(program: &Program, k: usize, i: usize) -> bool
+    requires { program.now.count ≤ most_modules }
+    ensures { result ≡ and (ltb k program.now.count) (ltb i (proc_count (module_of program.now k))) }
 {
-    if k < count {
-        let m = Module {
-            code: 0,
-            length: 0,
-            size: 0,
-            base: 0,
-            procs: procs[k],
-            table: 0,
-        };
-        return i < proc_count(m);
-    }
-    false
+    k < program.count && i < proc_count(program.modules[k])
 }
 
-// Whether the module and the procedure exist that the instruction op names, whose operand bytes are b and c.
-fn is_named(op: u8, b: u8, c: u8, count: usize, procs: &[u16; MOST_MODULES], m: Module) -> bool
-    requires { count ≤ most_modules }
-    ensures { result ≡ named (counted count procs.now) m op b c }
+// Whether the module and the procedure exist that the instruction op of module m names, whose operand bytes are b and c.
+#[tactic(auto, unfolding(mcode::specs::Walk::named))]
+fn is_named(program: &Program, m: Module, op: u8, b: u8, c: u8) -> bool
+    requires { program.now.count ≤ most_modules }
+    ensures { result ≡ named program.now m op b c }
 {
     if names_module(op) {
-        return wide(b) < count;
+        return (b as usize) < program.count;
     }
     if op < 0o355 {
         return true;
     }
     if op == 0o355 {
-        return has_procedure(wide(b), wide(c), count, procs);
+        return has_procedure(program, b as usize, c as usize);
     }
     callee_of(op, b) < proc_count(m)
 }
@@ -54,68 +44,41 @@ fn stays_in(length: usize, f: Flow) -> bool
         Flow::Fault => false,
         Flow::Ends => true,
         Flow::To(q, _) => q < length,
-        Flow::Fork(q, _, r, _) => {
-            if q < length {
-                return r < length;
-            }
-            false
-        }
+        Flow::Fork(q, _, r, _) => q < length && r < length,
     }
 }
 
-// What is wrong with position p.
-pub fn cause_at(
-    image: &[u8],
-    p: usize,
-    count: usize,
-    procs: &[u16; MOST_MODULES],
-    m: Module,
-    sizes: &[u8; 256],
-    kinds: &[u8; 256],
-) -> Cause
-    requires p_lt_length { p < m.length }
-    requires known { Known image.now count procs.now m sizes.now kinds.now }
-    ensures { result ≡ cause_at image.now (counted count procs.now) m p }
+// What is wrong with position p, if it is at fault.
+pub fn cause_at(code: &Code, program: &Program, p: usize) -> Option<Cause>
+    requires p_lt_length { p < code.now.m.length }
+    requires few { program.now.count ≤ most_modules }
+    ensures { result ≡ cause_at code.now.image.now program.now code.now.m p }
 {
-    let op = image[m.code + p];
-    if SAVES < kind_of(kinds, op) {
-        return Cause::Opcode;
+    let op = code.bytes[p];
+    let row = row_of(op);
+    if SAVES < row.kind {
+        return Some(Cause::Opcode);
     }
-    if (m.length as usize) < p + length_of(sizes, op) {
-        return Cause::Operands;
+    if (code.m.length as usize) < p + row.length {
+        return Some(Cause::Operands);
     }
-    let b = byte_at(image, m.code + (p + 1));
-    let c = byte_at(image, m.code + (p + 2));
-    if !is_named(op, b, c, count, procs, m) {
-        return Cause::Name;
+    let b = byte_at(code.bytes, p + 1);
+    let c = byte_at(code.bytes, p + 2);
+    if !is_named(program, code.m, op, b, c) {
+        return Some(Cause::Name);
     }
-    let f = ways_at(image, p, m, sizes, kinds);
-    if !stays_in(m.length as usize, f) {
-        return Cause::Successor;
+    let f = ways_at(code, p);
+    if !stays_in(code.m.length as usize, f) {
+        return Some(Cause::Successor);
     }
-    Cause::Nothing
+    None
 }
 
 // Whether position p is not at fault.
-pub fn is_whole(
-    image: &[u8],
-    p: usize,
-    count: usize,
-    procs: &[u16; MOST_MODULES],
-    m: Module,
-    sizes: &[u8; 256],
-    kinds: &[u8; 256],
-) -> bool
-    requires p_lt_length { p < m.length }
-    requires known { Known image.now count procs.now m sizes.now kinds.now }
-    ensures { result ≡ whole_at image.now (counted count procs.now) m p }
+pub fn is_whole(code: &Code, program: &Program, p: usize) -> bool
+    requires p_lt_length { p < code.now.m.length }
+    requires few { program.now.count ≤ most_modules }
+    ensures { result ≡ whole_at code.now.image.now program.now code.now.m p }
 {
-    let cause = cause_at(image, p, count, procs, m, sizes, kinds);
-    match cause {
-        Cause::Nothing => true,
-        Cause::Opcode => false,
-        Cause::Operands => false,
-        Cause::Name => false,
-        Cause::Successor => false,
-    }
+    cause_at(code, program, p).is_none()
 }

@@ -1,9 +1,9 @@
 -- The two-word operations that are computed together and selected by their opcode: what is selected is what the definition says. Assumes nothing.
+use Rattle.std.specs.Prelude.{Ok}
 use Rattle.std.proofs.Common.{◌≡◌, ℕ, zero, suc, ◌+◌, ◌-◌, ◌*◌, ◌%◌, ◌<◌, ◌≤◌, Bool, true, false, eqb, ltb, leb, pos, refl, ap, ◌∙◌, subst, ⊎_elim, eq-or-lt_of_le, arith, ltb-false, ltb-true, le-ltb, lt-ltb, ne_eqb, eqb-true, le-leb}
 use borrow.Author.Tests.{lt-leb, eqb-false}
 use lib.Bits.{bit_and, bit_or, bit_xor}
 use Rattle.mcode.specs.Word.{pick, truth, wrap, settle_unsigned, two_of}
-use Rattle.mcode.specs.declared.Value.TheVariants.{Is}
 use Rattle.words.specs.Sides.{answer}
 use Rattle.words.specs.Wide.{wide_difference}
 use Rattle.words.proofs.Order.{raised-order}
@@ -31,10 +31,10 @@ sums_word c a hc ha op l h =
     (refl, (difference-settles c a hc ha, (refl, tt))) op l (omega arith)
 
 -- 320 to 322
-pub bits-word : (c a op : ℕ) → 0o320 ≤ op → op ≤ 0o322 → Is (selected 0o320 (bit_or c a) (bit_xor c a) (bit_and c a) op) ≡ two_of op c a
+pub bits-word : (c a op : ℕ) → 0o320 ≤ op → op ≤ 0o322 → Ok (selected 0o320 (bit_or c a) (bit_xor c a) (bit_and c a) op) ≡ two_of op c a
 unfolding two_of
 bits-word c a op l h =
-    each (λ (op : ℕ). Is (selected 0o320 (bit_or c a) (bit_xor c a) (bit_and c a) op) ≡ two_of op c a) 3 0o320 (refl, (refl, (refl, tt))) op l (omega arith)
+    each (λ (op : ℕ). Ok (selected 0o320 (bit_or c a) (bit_xor c a) (bit_and c a) op) ≡ two_of op c a) 3 0o320 (refl, (refl, (refl, tt))) op l (omega arith)
 
 -- ---- the six comparisons, from the three ways in which c can stand to a
 abbrev Six : ℕ → ℕ → Type 0
@@ -60,30 +60,30 @@ six c a = elim-less (ltb c a) refl
     elim-less false e = elim-same (eqb c a) (ltb-false c a e) refl
 
 -- 252 to 255
-pub unsigned-word : (c a op : ℕ) → 0o252 ≤ op → op ≤ 0o255 → Is (answer (op % 16) c a) ≡ two_of op c a
+pub unsigned-word : (c a op : ℕ) → 0o252 ≤ op → op ≤ 0o255 → Ok (answer (op % 16) c a) ≡ two_of op c a
 unfolding two_of
 unsigned-word c a op l h =
     let s = six c a in
-    each (λ (op : ℕ). Is (answer (op % 16) c a) ≡ two_of op c a) 4 0o252
-    (ap Is s.2, (ap Is s.3, (ap Is s.4, (ap Is s.5, tt)))) op l (omega arith)
+    each (λ (op : ℕ). Ok (answer (op % 16) c a) ≡ two_of op c a) 4 0o252
+    (ap Ok s.2, (ap Ok s.3, (ap Ok s.4, (ap Ok s.5, tt)))) op l (omega arith)
 
 -- 310 to 315: signed words stand to one another as the words do with 32,768 added
 pub signed_word : (c a : ℕ) → c < 65536 → a < 65536 → (op : ℕ) → 0o310 ≤ op → op ≤ 0o315
-    → Is (answer (op % 16) (wrap (c + 32768)) (wrap (a + 32768))) ≡ two_of op c a
+    → Ok (answer (op % 16) (wrap (c + 32768)) (wrap (a + 32768))) ≡ two_of op c a
 unfolding two_of
 signed_word c a hc ha op l h =
     let s = six (wrap (c + 32768)) (wrap (a + 32768)) in
     let (same, (less, most)) = raised-order c a hc ha in
     let (back, (more, least)) = raised-order a c ha hc in
-    each (λ (op : ℕ). Is (answer (op % 16) (wrap (c + 32768)) (wrap (a + 32768))) ≡ two_of op c a) 6 0o310 (
-      ap Is (s.0 ∙ ap truth same),
+    each (λ (op : ℕ). Ok (answer (op % 16) (wrap (c + 32768)) (wrap (a + 32768))) ≡ two_of op c a) 6 0o310 (
+      ap Ok (s.0 ∙ ap truth same),
       (
-        ap Is (s.1 ∙ ap (λ (t : Bool). 1 - truth t) same),
+        ap Ok (s.1 ∙ ap (λ (t : Bool). 1 - truth t) same),
         (
-          ap Is (s.2 ∙ ap truth less),
+          ap Ok (s.2 ∙ ap truth less),
           (
-            ap Is (s.3 ∙ ap truth most),
-            (ap Is (s.4 ∙ ap truth more), (ap Is (s.5 ∙ ap truth least), tt)),
+            ap Ok (s.3 ∙ ap truth most),
+            (ap Ok (s.4 ∙ ap truth more), (ap Ok (s.5 ∙ ap truth least), tt)),
           ),
         ),
       ),

@@ -1,16 +1,16 @@
 -- An unsigned result in 64 bits, as the code has it: a word or trap 37 by one comparison, a difference that went round below 0 too. Assumes nothing.
+use Rattle.std.specs.Prelude.{Ok, Err}
 use Rattle.std.proofs.Common.{◌≡◌, ℕ, zero, suc, ◌-◌, ◌<◌, ◌≤◌, Bool, true, false, ltb, pos, ◌-ℤ◌, refl, ap, arith, ltb-false, ltb-true, le-ltb, le-leb}
 use borrow.Author.Tests.{lt-leb}
 use lib.IntN.{sub_ℕ}
 use Rattle.mcode.specs.Word.{settle_unsigned}
 use Rattle.mcode.specs.declared.Stop.TheVariants.{ResultRange}
-use Rattle.mcode.specs.declared.Value.TheVariants.{Is, Fault}
 use Rattle.words.specs.Wide.{wide_difference}
 
-pub word-settles : (n : ℕ) → n < 65536 → settle_unsigned (pos n) ≡ Is n
+pub word-settles : (n : ℕ) → n < 65536 → settle_unsigned (pos n) ≡ Ok n
 word-settles n h = rw (le-leb 0 n (omega arith), le-leb n 65535 (omega arith))
 
-pub above-settles : (n : ℕ) → 65536 ≤ n → settle_unsigned (pos n) ≡ Fault ResultRange
+pub above-settles : (n : ℕ) → 65536 ≤ n → settle_unsigned (pos n) ≡ Err ResultRange
 above-settles n h = rw (le-leb 0 n (omega arith), lt-leb n 65535 (omega arith))
 
 difference : (c a : ℕ) → pos c -ℤ pos a ≡ sub_ℕ c a

@@ -38,7 +38,7 @@ pub fn bitwise(op: u8, c: u16, a: u16) -> Value
     let x = c | a;
     let y = c ^ a;
     let z = c & a;
-    Value::Is(chosen(op == 0o322, z, chosen(op == 0o321, y, x)))
+    Ok(chosen(op == 0o322, z, chosen(op == 0o321, y, x)))
 }
 
 // Byte i of a string that has it in the word w: even i is the high byte.

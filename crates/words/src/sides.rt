@@ -27,7 +27,7 @@ pub fn compared(op: u8, c: u16, a: u16) -> Value
     requires { (0o252 ≤ op) × (op ≤ 0o255) }
     ensures { result ≡ two_of op c a }
 {
-    Value::Is(answer_of(op, c, a))
+    Ok(answer_of(op, c, a))
 }
 
 // The words in the order of their numbers: -32,768 becomes 0, 32,767 becomes 65,535.
@@ -42,5 +42,5 @@ pub fn compared_signed(op: u8, c: u16, a: u16) -> Value
     requires { (0o310 ≤ op) × (op ≤ 0o315) }
     ensures { result ≡ two_of op c a }
 {
-    Value::Is(answer_of(op, raised(c), raised(a)))
+    Ok(answer_of(op, raised(c), raised(a)))
 }

@@ -34,12 +34,12 @@ fn settled(z: i32) -> Value
     ensures { result ≡ W.settle z }
 {
     if z < -32768 {
-        return Value::Fault(Stop::ResultRange);
+        return Err(Stop::ResultRange);
     }
     if 32767 < z {
-        return Value::Fault(Stop::ResultRange);
+        return Err(Stop::ResultRange);
     }
-    Value::Is(bits_of(z as i16))
+    Ok(bits_of(z as i16))
 }
 
 // The number in 32 bits, where sums, differences and products of two of them fit.
@@ -72,7 +72,7 @@ fn quotient(c: u16, a: u16) -> Value
     requires { (a ≢ 0) × (c ≡ 32768 → a ≢ 65535) }
     ensures { result ≡ W.settle (int_div (W.signed c) (W.signed a)) }
 {
-    Value::Is(bits_of(signed_of(c) / signed_of(a)))
+    Ok(bits_of(signed_of(c) / signed_of(a)))
 }
 
 // -32,768 / -1 is outside.
@@ -80,11 +80,11 @@ pub fn div(c: u16, a: u16) -> Value
     ensures { result ≡ W.divided a (W.settle (int_div (W.signed c) (W.signed a))) }
 {
     if a == 0 {
-        return Value::Fault(Stop::ZeroDivisor);
+        return Err(Stop::ZeroDivisor);
     }
     if c == 32768 {
         if a == 65535 {
-            Value::Fault(Stop::ResultRange)
+            Err(Stop::ResultRange)
         } else {
             quotient(c, a)
         }
@@ -98,9 +98,9 @@ pub fn neg(a: u16) -> Value
     ensures { result ≡ W.settle (neg_ℤ (W.signed a)) }
 {
     if a == 32768 {
-        Value::Fault(Stop::ResultRange)
+        Err(Stop::ResultRange)
     } else {
-        Value::Is(bits_of(-signed_of(a)))
+        Ok(bits_of(-signed_of(a)))
     }
 }
 
@@ -108,7 +108,7 @@ pub fn neg(a: u16) -> Value
 pub fn abs(a: u16) -> Value
     ensures { result ≡ W.settle (pos (unsigned_abs (W.signed a))) }
 {
-    if a < 32768 { Value::Is(a) } else { neg(a) }
+    if a < 32768 { Ok(a) } else { neg(a) }
 }
 
 fn is_at_most(c: u16, a: u16) -> bool
@@ -123,8 +123,8 @@ pub fn within(e: u16, low: u16, high: u16) -> Value
 {
     if is_at_most(low, e) {
         if is_at_most(e, high) {
-            return Value::Is(e);
+            return Ok(e);
         }
     }
-    Value::Fault(Stop::CheckFailed)
+    Err(Stop::CheckFailed)
 }

@@ -1,7 +1,7 @@
 // Unsigned arithmetic: sums, differences and products, of which a result outside 0 to 65,535 is trap 37, division, and the check of a range.
 ghost use Rattle.std.specs.Prelude.{◌≡◌, ◌+◌, ◌*◌, ◌/◌, ◌%◌, ◌≤◌, pos, nat_le};
 ghost use Rattle.mcode.specs.Word.{and, settle_unsigned, divided, checked, two_of};
-ghost use Rattle.mcode.specs.declared.Value.TheVariants.{Is};
+ghost use Rattle.std.specs.Prelude.{Ok};
 ghost use Rattle.words.specs.Wide.{wide_difference};
 
 use crate::chosen_wide;
@@ -32,9 +32,9 @@ fn settled(n: u64) -> Value
     ensures { result ≡ settle_unsigned (pos n) }
 {
     if n < 65536 {
-        Value::Is(n as u16)
+        Ok(n as u16)
     } else {
-        Value::Fault(Stop::ResultRange)
+        Err(Stop::ResultRange)
     }
 }
 
@@ -50,22 +50,22 @@ pub fn sums(op: u8, c: u16, a: u16) -> Value
 }
 
 pub fn div(c: u16, a: u16) -> Value
-    ensures { result ≡ divided a (Is (c / a)) }
+    ensures { result ≡ divided a (Ok (c / a)) }
 {
     if a == 0 {
-        Value::Fault(Stop::ZeroDivisor)
+        Err(Stop::ZeroDivisor)
     } else {
-        Value::Is(c / a)
+        Ok(c / a)
     }
 }
 
 pub fn rem(c: u16, a: u16) -> Value
-    ensures { result ≡ divided a (Is (c % a)) }
+    ensures { result ≡ divided a (Ok (c % a)) }
 {
     if a == 0 {
-        Value::Fault(Stop::ZeroDivisor)
+        Err(Stop::ZeroDivisor)
     } else {
-        Value::Is(c % a)
+        Ok(c % a)
     }
 }
 
@@ -74,11 +74,11 @@ pub fn within(e: u16, low: u16, high: u16) -> Value
     ensures { result ≡ checked e (and (nat_le low e) (nat_le e high)) }
 {
     if e < low {
-        return Value::Fault(Stop::CheckFailed);
+        return Err(Stop::CheckFailed);
     }
     if high < e {
-        Value::Fault(Stop::CheckFailed)
+        Err(Stop::CheckFailed)
     } else {
-        Value::Is(e)
+        Ok(e)
     }
 }

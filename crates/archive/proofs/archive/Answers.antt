@@ -1,29 +1,31 @@
 -- Load's refusals, then 14, then the form: each answer from those of the reader, of load and of the writer.
+use Rattle.std.proofs.Common.{arith}
+use Rattle.std.proofs.lemmas.Result.{err_from_is_err_and}
 use Rattle.loader.proofs.Answers.{read-so}
+use Rattle.loader.proofs.Answers as loaded
 use Rattle.loader.proofs.Begin.{read_told}
-use Rattle.archive.proofs.Answers.{unread-so, refused-so, short-so, whole-so}
-use native.Mathlib.Omega.{arith}
+use Rattle.archive.proofs.Answers.{refused-so, short-so, whole-so}
 use Rattle.archive.proofs.archive.Goals as goal
 
-pub returns-then-refusal-ge1 : goal.returns-then-refusal-ge1
-returns-then-refusal-ge1 c = unread-so _ c.args.map.now c.args.output.now _ c.read_image-parsed.ensures c.if-refusal-ge1.true _ c.refused.ensures
+pub returns-in_err-program : goal.returns-in_err-program
+returns-in_err-program c = let p = err_from_is_err_and c.from_residual.result c.from_residual.ensures.1 in rw (p.1, p.2) (refused-so _ _ _ _ _ (loaded.refused-so _ _ _ c.in_err-program.ensures))
 
-pub load_program-verdict-requires : goal.load_program-verdict-requires
-load_program-verdict-requires c = read_told _ _ c.read_image-parsed.ensures c.if-refusal-ge1.false
+pub load_program-requires : goal.load_program-requires
+load_program-requires c = read_told _ _ c.in_ok-program.ensures
 
-pub returns-then-number-ge1 : goal.returns-then-number-ge1
-returns-then-number-ge1 c = refused-so _ _ _ _ (read-so _ _ _ c.read_image-parsed.ensures _ c.if-refusal-ge1.false _ c.load_program-verdict.ensures) _ c.if-number-ge1.true _ c.refused-then-number-ge1.ensures
+pub returns-in_err-load_program : goal.returns-in_err-load_program
+returns-in_err-load_program c =
+    let r = c.from_residual-in_err-load_program in
+    let p = err_from_is_err_and r.result r.ensures.1 in
+    rw (p.1, p.2) (refused-so _ _ _ _ _ (read-so _ _ _ c.in_ok-program.ensures _ _ c.in_err-load_program.ensures))
 
-pub form_length-length-requires : goal.form_length-length-requires
-form_length-length-requires c = read_told _ _ c.read_image-parsed.ensures c.if-refusal-ge1.false
+pub invariant_of-image : goal.invariant_of-image
+invariant_of-image c = record { in_range = λ i. omega (arith, c.type_inv.image i); told = read_told _ _ c.in_ok-program.ensures }
 
 pub returns-then-output-length : goal.returns-then-output-length
 returns-then-output-length c =
-    short-so _ _ _ _ (read-so _ _ _ c.read_image-parsed.ensures _ c.if-refusal-ge1.false _ c.load_program-verdict.ensures) c.if-number-ge1.false _ c.read_image-parsed.ensures _ _ c.form_length-length.ensures c.if-output-length.true _ c.refused-then-output-length.ensures
-
-pub write_form-requires : goal.write_form-requires
-write_form-requires c = record { told = read_told _ _ c.read_image-parsed.ensures c.if-refusal-ge1.false; program_in_bounds = omega (arith, c.form_length-length.ensures, c.if-output-length.false) }
+    short-so _ _ _ _ _ c.in_ok-program.ensures (read-so _ _ _ c.in_ok-program.ensures _ _ c.in_ok-load_program.ensures) _ c.form_length-length.ensures c.if-output-length.true
 
 pub returns : goal.returns
 returns c =
-    whole-so _ _ _ _ (read-so _ _ _ c.read_image-parsed.ensures _ c.if-refusal-ge1.false _ c.load_program-verdict.ensures) c.if-number-ge1.false _ c.read_image-parsed.ensures _ _ c.form_length-length.ensures c.if-output-length.false _ c.write_form.ensures
+    whole-so _ _ _ _ _ c.in_ok-program.ensures (read-so _ _ _ c.in_ok-program.ensures _ _ c.in_ok-load_program.ensures) _ c.form_length-length.ensures c.if-output-length.false _ c.write_form.ensures

@@ -9,8 +9,12 @@ unfolding start_words
 returns-then-machine-ne24 c = rw (ne_eqb _ _ c.if-machine-ne24.true) refl
 
 pub pack-requires : goal.pack-requires
-pack-requires c = (c.if-machine-ne24.false, start-depth _ _ _ c.start-started.ensures)
+pack-requires c = (c.if-machine-ne24.false, start-depth _ _ _ c.in-Ok.ensures)
 
-pub returns : goal.returns
+pub returns-in-Ok : goal.returns-in-Ok
 unfolding start_words
-returns c = rw (eq-eqb _ _ c.if-machine-ne24.false, c.pack.ensures) (ap start_says c.start-started.ensures)
+returns-in-Ok c = rw (eq-eqb _ _ c.if-machine-ne24.false, c.pack.ensures) (ap start_says c.in-Ok.ensures)
+
+pub returns-in-Err : goal.returns-in-Err
+unfolding start_words
+returns-in-Err c = rw (eq-eqb _ _ c.if-machine-ne24.false, c.pack-in-Err.ensures, c.zero_machine.ensures, c.number.ensures) (ap start_says c.in-Err.ensures)

@@ -1,37 +1,48 @@
--- From the answers of load and of the reader.
-use mathlib.Core.Path.{ap}
-use Rattle.mcode.specs.declared.Parsed.{Parsed}
+-- From the answers of the reader and of load.
 use Rattle.loader.proofs.Begin.{read_told}
-use Rattle.explain.proofs.Places.{broken-so, place-so, whole-so, fault-told, read-so, fault-so}
+use Rattle.explain.proofs.Places.{read-as, unread-as, loads-as, accepts-as, broken-so, place-so, long-so, whole-so, explained-as, fault-so}
 use native.Mathlib.Omega.{arith}
 use Rattle.explain.proofs.reason.Goals as goal
 
-pub returns-then-refusal-ge1 : goal.returns-then-refusal-ge1
-returns-then-refusal-ge1 c = (tt, λ u z l. absurd (omega (arith, z, c.if-refusal-ge1.true, ap (λ (r : Parsed). r.refusal) c.read_image-parsed.ensures)))
+pub returns-in_err-program : goal.returns-in_err-program
+returns-in_err-program c = rw c.from_residual.ensures (tt, λ u z l. absurd (unread-as _ _ c.in_err-program.ensures.value c.read_image.ensures z))
 
-pub returns-then-map-image : goal.returns-then-map-image
-returns-then-map-image c = (tt, λ u z l. absurd (omega (arith, l, c.if-map-image.true, c.load-verdict.auto.map)))
+pub load_program-requires : goal.load_program-requires
+load_program-requires c = read_told _ _ (read-as _ _ _ c.in_ok-program.ensures.value c.read_image.ensures)
+
+pub returns-in_err-refusal : goal.returns-in_err-refusal
+returns-in_err-refusal c =
+    let e = read-as c.args.image.now c.read_image.result c.in_ok-program.program c.in_ok-program.ensures.value c.read_image.ensures in
+    let L = accepts-as c.args.image.now c.args.map.now c.load_program.new.map c.in_ok-program.program c.load_program.result c.in_err-refusal.ensures.value c.load_program.ensures in
+    rw c.from_residual-in_err-refusal.ensures (tt, λ u z l. whole-so _ _ _ _ e _ L (λ n. omega (arith, n)) l)
+
+pub invariant_of-read : goal.invariant_of-read
+invariant_of-read c = record { told = read_told _ _ (read-as _ _ _ c.in_ok-program.ensures.value c.read_image.ensures) }
+
+pub invariant_of-read-in-NoDepths : goal.invariant_of-read-in-NoDepths
+invariant_of-read-in-NoDepths c = record { told = read_told _ _ (read-as _ _ _ c.in_ok-program.ensures.value c.read_image.ensures) }
 
 pub fault_at-requires : goal.fault_at-requires
 fault_at-requires c =
-    let T = read_told _ _ c.read_image-parsed.ensures c.if-refusal-ge1.false in
-    record { told = T; k_lt_count = place-so c.args.image.now c.args.map.now c.load-verdict.new.map c.load-verdict.result c.load-verdict.ensures _ c.read_image-parsed.ensures c.if-refusal-ge1.false (omega (arith, c.if-map-image.false, c.load-verdict.auto.map)) c.if-number-eq13.true T }
-
-pub returns-then-number-eq13 : goal.returns-then-number-eq13
-returns-then-number-eq13 c =
-    let B = broken-so c.args.image.now c.args.map.now c.load-verdict.new.map c.load-verdict.result c.load-verdict.ensures _ c.read_image-parsed.ensures c.if-refusal-ge1.false (omega (arith, c.if-map-image.false, c.load-verdict.auto.map)) c.if-number-eq13.true in (
-      read-so c.args.image.now _ c.read_image-parsed.ensures c.fault_at.result (fault-so c.args.image.now _ _ _ B c.fault_at.result c.fault_at.ensures),
-      λ u z l. absurd (fault-told c.args.image.now c.read_image-parsed.result.program c.load-verdict.result.unit c.load-verdict.result.pc.0 c.fault_at.result c.fault_at.ensures u),
-    )
+    let e = read-as c.args.image.now c.read_image.result c.in_ok-program.program c.in_ok-program.ensures.value c.read_image.ensures in
+    let L = loads-as c.args.image.now c.args.map.now c.load_program.new.map c.in_ok-program.program c.load_program.result c.in_ok-refusal.refusal _ c.in_ok-refusal.ensures.value c.in-NotWhole.is c.load_program.ensures in
+    place-so _ _ (read_told _ _ e) _ _ (broken-so _ _ _ _ _ _ L)
 
 pub first_misfit-requires : goal.first_misfit-requires
-first_misfit-requires c = record { told = read_told _ _ c.read_image-parsed.ensures c.if-refusal-ge1.false; image_in_bounds = c.if-map-image.false }
+first_misfit-requires c =
+    let e = read-as c.args.image.now c.read_image.result c.in_ok-program.program c.in_ok-program.ensures.value c.read_image.ensures in
+    let L = loads-as c.args.image.now c.args.map.now c.load_program.new.map c.in_ok-program.program c.load_program.result c.in_ok-refusal.refusal _ c.in_ok-refusal.ensures.value c.in-NoDepths.is c.load_program.ensures in
+    omega (arith, long-so _ _ _ _ L, c.load_program.auto.map)
 
-pub returns-then-number-eq8 : goal.returns-then-number-eq8
-returns-then-number-eq8 c = (
-  read-so c.args.image.now _ c.read_image-parsed.ensures c.first_misfit.result c.first_misfit.ensures,
-  λ u. whole-so c.args.image.now c.args.map.now c.load-verdict.new.map c.load-verdict.result c.load-verdict.ensures c.if-number-eq13.false,
-)
+pub returns-in-NotWhole : goal.returns-in-NotWhole
+returns-in-NotWhole c =
+    let e = read-as c.args.image.now c.read_image.result c.in_ok-program.program c.in_ok-program.ensures.value c.read_image.ensures in
+    let L = loads-as c.args.image.now c.args.map.now c.load_program.new.map c.in_ok-program.program c.load_program.result c.in_ok-refusal.refusal _ c.in_ok-refusal.ensures.value c.in-NotWhole.is c.load_program.ensures in
+    let F = fault-so _ _ _ _ (broken-so _ _ _ _ _ _ L) c.fault_at.result c.fault_at.ensures in
+    (explained-as _ _ e _ F.0, λ u z l. absurd (F.1 u))
 
-pub returns : goal.returns
-returns c = (tt, λ u. whole-so c.args.image.now c.args.map.now c.load-verdict.new.map c.load-verdict.result c.load-verdict.ensures c.if-number-eq13.false)
+pub returns-in-NoDepths : goal.returns-in-NoDepths
+returns-in-NoDepths c =
+    let e = read-as c.args.image.now c.read_image.result c.in_ok-program.program c.in_ok-program.ensures.value c.read_image.ensures in
+    let L = loads-as c.args.image.now c.args.map.now c.load_program.new.map c.in_ok-program.program c.load_program.result c.in_ok-refusal.refusal _ c.in_ok-refusal.ensures.value c.in-NoDepths.is c.load_program.ensures in
+    (explained-as _ _ e _ c.first_misfit.ensures, λ u z l. whole-so _ _ _ _ e _ L (λ n. omega (arith, n)) l)

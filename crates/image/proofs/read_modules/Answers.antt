@@ -1,41 +1,23 @@
 -- The modules; the loop keeps that those left give the answer of all, and bounds the sum of the bases.
-use mathlib.Core.Path.{sym, ◌∙◌}
+use Rattle.std.proofs.Common.{sym, ◌∙◌, arith}
 use Rattle.image.proofs.Laws.{more-modules, unread-module, last-module, bytes_after, first-module}
-use native.Mathlib.Omega.{arith}
+use Rattle.std.proofs.lemmas.Result.{err_from_is_err_and}
 use Rattle.image.proofs.read_modules.Goals as goal
 
 pub loop-i-init : goal.loop-i-init
-loop-i-init c = (omega arith, omega arith, rw c.no_module-none.ensures (first-module _ _ _ _ _))
+loop-i-init c = (omega arith, rw c.no_module-modules.ensures (first-module _ _ _ _ _))
 
-pub offset_bounds-table-i : goal.offset_bounds-table-i
-offset_bounds-table-i c = omega arith
-
-pub bounds-table-i : goal.bounds-table-i
-bounds-table-i c = omega arith
-
-pub overflow_add-base : goal.overflow_add-base
-overflow_add-base c = omega arith
-
-pub overflow_cast-base : goal.overflow_cast-base
-overflow_cast-base c = omega arith
-
-pub overflow_add-base-in-Read : goal.overflow_add-base-in-Read
-overflow_add-base-in-Read c = omega arith
-
-pub overflow_add-i : goal.overflow_add-i
-overflow_add-i c = omega arith
-
-pub loop-i-smaller : goal.loop-i-smaller
-loop-i-smaller c = omega arith
+pub overflow_add-base-in-loop-i : goal.overflow_add-base-in-loop-i
+overflow_add-base-in-loop-i c = omega arith
 
 pub loop-i-preserved : goal.loop-i-preserved
-loop-i-preserved c = (omega arith, omega arith, c.loop-i.invariant.2 ∙ more-modules _ _ _ _ _ _ _ _ c.loop-i-test.true (sym c.read_module.ensures ∙ c.in-Read.is))
+loop-i-preserved c = (omega arith, c.loop-i.invariant.1 ∙ more-modules _ _ _ _ _ _ _ _ (omega arith) (sym c.in_ok-module.ensures))
 
-pub returns-in-Refused : goal.returns-in-Refused
-returns-in-Refused c = c.refused.ensures ∙ sym (c.loop-i.invariant.2 ∙ unread-module _ _ _ _ _ _ _ c.loop-i-test.true (sym c.read_module.ensures ∙ c.in-Refused.is))
+pub returns-in_err-module : goal.returns-in_err-module
+returns-in_err-module c = let p = err_from_is_err_and c.from_residual.result c.from_residual.ensures.1 in rw (p.1, p.2) (sym (c.loop-i.invariant.1 ∙ unread-module _ _ _ _ _ _ _ (omega arith) (sym c.in_err-module.ensures)))
 
 pub returns-then-at-s : goal.returns-then-at-s
-returns-then-at-s c = sym (c.loop-i.invariant.2 ∙ last-module _ _ _ _ _ _ c.loop-i.invariant.0 c.loop-i-test.false c.if-at-s.true)
+returns-then-at-s c = sym (c.loop-i.invariant.1 ∙ last-module _ _ _ _ _ _ (omega arith) (omega arith) c.if-at-s.true)
 
 pub returns : goal.returns
-returns c = c.refused-2.ensures ∙ sym (c.loop-i.invariant.2 ∙ bytes_after _ _ _ _ _ _ c.loop-i-test.false c.if-at-s.false)
+returns c = sym (c.loop-i.invariant.1 ∙ bytes_after _ _ _ _ _ _ (omega arith) c.if-at-s.false)

@@ -1,10 +1,7 @@
-use mathlib.Core.Path.{◌≡◌}
-use Prim.Native.Nat.{◌-◌}
+use Rattle.std.proofs.Common.{◌≡◌, ◌-◌}
 use Rattle.mcode.specs.Depths.{is_list}
 use Rattle.marks.proofs.is_list.Given as goal
 
-abbrev pub invariant-loop-i : goal.invariant-loop-i
-invariant-loop-i l = is_list l.n l.l ≡ is_list (l.n - l.i) l.rest
-
-abbrev pub decreases-loop-i : goal.decreases-loop-i
-decreases-loop-i l = l.n - l.i
+-- with as many of its depths read as the loop has counted
+abbrev pub invariant-loop : goal.invariant-loop
+invariant-loop l = is_list l.n l.l ≡ is_list (l.n - l.counter) l.rest

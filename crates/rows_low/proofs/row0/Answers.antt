@@ -4,4 +4,4 @@ use Rattle.rows_low.proofs.row0.Goals as goal
 
 pub returns : goal.returns
 unfolding instruction decode_of
-returns c = ((λ lent o store out. rw (c.requires.0, ← c.wide.ensures.0) (c.put_word.ensures.0 lent store out)), c.put_word.ensures.1)
+returns c = ((λ lent o store out. rw c.requires.0 (c.put_word.ensures.0 lent store out)), c.put_word.ensures.1)

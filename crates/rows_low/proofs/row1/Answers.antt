@@ -51,20 +51,28 @@ pub put_word-requires-in-23 : goal.put_word-requires-in-23
 unfolding takens lefts lengths
 put_word-requires-in-23 c = omega (arith, rw c.in-23.is at c.requires.ready)
 
-pub zero_word-requires : goal.zero_word-requires
-unfolding takens lefts lengths
-zero_word-requires c = omega (arith, rw c.in-24.is at c.requires.ready)
-
 pub operand_word-requires : goal.operand_word-requires
 unfolding takens lefts lengths
-operand_word-requires c = omega (arith, rw c.in-25.is at c.requires.ready)
+operand_word-requires c = omega (arith, rw c.in-24.is at c.requires.ready)
+
+pub jump_zero-requires : goal.jump_zero-requires
+unfolding takens lefts lengths
+jump_zero-requires c = let h = c.forward.ensures.1 in omega (arith, rw c.in-24.is at c.requires.ready)
+
+pub operand_word-requires-in-25 : goal.operand_word-requires-in-25
+unfolding takens lefts lengths
+operand_word-requires-in-25 c = omega (arith, rw c.in-25.is at c.requires.ready)
 
 pub jump-requires : goal.jump-requires
-jump-requires c = c.forward.ensures.1
+jump-requires c = c.forward-in-25.ensures.1
 
-pub zero_forward-requires : goal.zero_forward-requires
+pub operand-requires-in-26 : goal.operand-requires-in-26
 unfolding takens lefts lengths
-zero_forward-requires c = omega (arith, rw c.in-26.is at c.requires.ready)
+operand-requires-in-26 c = omega (arith, rw c.in-26.is at c.requires.ready)
+
+pub jump_zero-requires-in-26 : goal.jump_zero-requires-in-26
+unfolding takens lefts lengths
+jump_zero-requires-in-26 c = let h = c.forward-in-26.ensures.1 in omega (arith, rw c.in-26.is at c.requires.ready)
 
 pub operand-requires-in-27 : goal.operand-requires-in-27
 unfolding takens lefts lengths
@@ -73,24 +81,36 @@ operand-requires-in-27 c = omega (arith, rw c.in-27.is at c.requires.ready)
 pub jump-requires-in-27 : goal.jump-requires-in-27
 jump-requires-in-27 c = c.forward-in-27.ensures.1
 
-pub zero_back-requires : goal.zero_back-requires
+pub operand-requires-in-28 : goal.operand-requires-in-28
 unfolding takens lefts lengths
-zero_back-requires c = omega (arith, rw c.in-28.is at c.requires.ready)
+operand-requires-in-28 c = omega (arith, rw c.in-28.is at c.requires.ready)
+
+pub jump_zero-requires-in-28 : goal.jump_zero-requires-in-28
+unfolding takens lefts lengths
+jump_zero-requires-in-28 c = let h = c.back.ensures.1 in omega (arith, rw c.in-28.is at c.requires.ready)
 
 pub operand-requires-in-29 : goal.operand-requires-in-29
 unfolding takens lefts lengths
 operand-requires-in-29 c = omega (arith, rw c.in-29.is at c.requires.ready)
 
 pub jump-requires-in-29 : goal.jump-requires-in-29
-jump-requires-in-29 c = c.back.ensures.1
+jump-requires-in-29 c = c.back-in-29.ensures.1
 
-pub or_forward-requires : goal.or_forward-requires
+pub operand-requires-in-30 : goal.operand-requires-in-30
 unfolding takens lefts lengths
-or_forward-requires c = omega (arith, rw c.in-30.is at c.requires.ready)
+operand-requires-in-30 c = omega (arith, rw c.in-30.is at c.requires.ready)
 
-pub and_forward-requires : goal.and_forward-requires
+pub jump_or-requires : goal.jump_or-requires
 unfolding takens lefts lengths
-and_forward-requires c = omega (arith, rw c.in-31.is at c.requires.ready)
+jump_or-requires c = let h = c.forward-in-30.ensures.1 in omega (arith, rw c.in-30.is at c.requires.ready)
+
+pub operand-requires-in-31 : goal.operand-requires-in-31
+unfolding takens lefts lengths
+operand-requires-in-31 c = omega (arith, rw c.in-31.is at c.requires.ready)
+
+pub jump_and-requires : goal.jump_and-requires
+unfolding takens lefts lengths
+jump_and-requires c = let h = c.forward-in-31.ensures.1 in omega (arith, rw c.in-31.is at c.requires.ready)
 
 pub returns-in-20 : goal.returns-in-20
 unfolding instruction decode_of row1 target
@@ -110,15 +130,15 @@ returns-in-23 c = ((λ lent h store out. rw (c.in-23.is, h.named _ (c.requires.r
 
 pub returns-in-24 : goal.returns-in-24
 unfolding instruction decode_of row1 target
-returns-in-24 c = ((λ lent h store out. rw c.in-24.is (c.zero_word.ensures.0 lent store out)), c.zero_word.ensures.1)
+returns-in-24 c = ((λ lent h store out. rw (c.in-24.is, ← c.operand_word.ensures, ← c.forward.ensures.0) (c.jump_zero.ensures.0 lent store out)), c.jump_zero.ensures.1)
 
 pub returns-in-25 : goal.returns-in-25
 unfolding instruction decode_of row1 target
-returns-in-25 c = ((λ lent h store out. rw (c.in-25.is, ← c.operand_word.ensures, ← c.forward.ensures.0) (c.jump.ensures.0 lent _ _ store out)), c.jump.ensures.1)
+returns-in-25 c = ((λ lent h store out. rw (c.in-25.is, ← c.operand_word-in-25.ensures, ← c.forward-in-25.ensures.0) (c.jump.ensures.0 lent _ _ store out)), c.jump.ensures.1)
 
 pub returns-in-26 : goal.returns-in-26
 unfolding instruction decode_of row1 target
-returns-in-26 c = ((λ lent h store out. rw c.in-26.is (c.zero_forward.ensures.0 lent store out)), c.zero_forward.ensures.1)
+returns-in-26 c = ((λ lent h store out. rw (c.in-26.is, ← c.operand-in-26.ensures.0, ← c.forward-in-26.ensures.0) (c.jump_zero-in-26.ensures.0 lent store out)), c.jump_zero-in-26.ensures.1)
 
 pub returns-in-27 : goal.returns-in-27
 unfolding instruction decode_of row1 target
@@ -126,19 +146,19 @@ returns-in-27 c = ((λ lent h store out. rw (c.in-27.is, ← c.operand-in-27.ens
 
 pub returns-in-28 : goal.returns-in-28
 unfolding instruction decode_of row1 target
-returns-in-28 c = ((λ lent h store out. rw c.in-28.is (c.zero_back.ensures.0 lent store out)), c.zero_back.ensures.1)
+returns-in-28 c = ((λ lent h store out. rw (c.in-28.is, ← c.operand-in-28.ensures.0, ← c.back.ensures.0) (c.jump_zero-in-28.ensures.0 lent store out)), c.jump_zero-in-28.ensures.1)
 
 pub returns-in-29 : goal.returns-in-29
 unfolding instruction decode_of row1 target
-returns-in-29 c = ((λ lent h store out. rw (c.in-29.is, ← c.operand-in-29.ensures.0, ← c.back.ensures.0) (c.jump-in-29.ensures.0 lent _ _ store out)), c.jump-in-29.ensures.1)
+returns-in-29 c = ((λ lent h store out. rw (c.in-29.is, ← c.operand-in-29.ensures.0, ← c.back-in-29.ensures.0) (c.jump-in-29.ensures.0 lent _ _ store out)), c.jump-in-29.ensures.1)
 
 pub returns-in-30 : goal.returns-in-30
 unfolding instruction decode_of row1 target
-returns-in-30 c = ((λ lent h store out. rw c.in-30.is (c.or_forward.ensures.0 lent store out)), c.or_forward.ensures.1)
+returns-in-30 c = ((λ lent h store out. rw (c.in-30.is, ← c.operand-in-30.ensures.0, ← c.forward-in-30.ensures.0) (c.jump_or.ensures.0 lent store out)), c.jump_or.ensures.1)
 
 pub returns-in-31 : goal.returns-in-31
 unfolding instruction decode_of row1 target
-returns-in-31 c = ((λ lent h store out. rw c.in-31.is (c.and_forward.ensures.0 lent store out)), c.and_forward.ensures.1)
+returns-in-31 c = ((λ lent h store out. rw (c.in-31.is, ← c.operand-in-31.ensures.0, ← c.forward-in-31.ensures.0) (c.jump_and.ensures.0 lent store out)), c.jump_and.ensures.1)
 
 pub returns-in_default : goal.returns-in_default
 unfolding instruction decode_of row1 target

@@ -11,7 +11,7 @@ load-requires c = omega (arith, short2 _ c.requires.op_value c.if-op-gt35.true, 
 
 pub returns-then-op-gt35 : goal.returns-then-op-gt35
 unfolding instruction decode_of row2 loads
-returns-then-op-gt35 c = ((λ lent h out. rw (c.requires.op_value, past _ 0o42 _ c.if-op-gt35.true (omega arith), past _ 0o43 _ c.if-op-gt35.true (omega arith), not_there _ 0o40 0 _ c.if-op-gt35.true (omega arith), not_there _ 0o40 1 _ c.if-op-gt35.true (omega arith)) (rw (c.plus.ensures, c.wide.ensures.0) at (c.load.ensures.0 lent out))), c.load.ensures.1)
+returns-then-op-gt35 c = ((λ lent h out. rw (c.requires.op_value, past _ 0o42 _ c.if-op-gt35.true (omega arith), past _ 0o43 _ c.if-op-gt35.true (omega arith), not_there _ 0o40 0 _ c.if-op-gt35.true (omega arith), not_there _ 0o40 1 _ c.if-op-gt35.true (omega arith)) (rw c.plus.ensures at (c.load.ensures.0 lent out))), c.load.ensures.1)
 
 pub operand-requires : goal.operand-requires
 unfolding takens lefts lengths

@@ -11,7 +11,7 @@ save-requires c = omega (arith, short3 _ c.requires.op_value c.if-op-gt51.true, 
 
 pub returns-then-op-gt51 : goal.returns-then-op-gt51
 unfolding instruction decode_of row3 stores
-returns-then-op-gt51 c = ((λ lent h out. rw (c.requires.op_value, past _ 0o62 _ c.if-op-gt51.true (omega arith), past _ 0o63 _ c.if-op-gt51.true (omega arith), not_there _ 0o60 0 _ c.if-op-gt51.true (omega arith), not_there _ 0o60 1 _ c.if-op-gt51.true (omega arith)) (rw (c.plus.ensures, c.wide.ensures.0) at (c.save.ensures.0 lent out))), c.save.ensures.1)
+returns-then-op-gt51 c = ((λ lent h out. rw (c.requires.op_value, past _ 0o62 _ c.if-op-gt51.true (omega arith), past _ 0o63 _ c.if-op-gt51.true (omega arith), not_there _ 0o60 0 _ c.if-op-gt51.true (omega arith), not_there _ 0o60 1 _ c.if-op-gt51.true (omega arith)) (rw c.plus.ensures at (c.save.ensures.0 lent out))), c.save.ensures.1)
 
 pub operand-requires : goal.operand-requires
 unfolding takens lefts lengths

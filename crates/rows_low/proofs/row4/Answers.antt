@@ -34,4 +34,4 @@ load-requires-2 c = omega (arith, short4 _ c.requires.op_value (after_two _ 0o10
 
 pub returns : goal.returns
 unfolding instruction decode_of loads
-returns c = ((λ lent numbers h out. rw (c.requires.op_value, not_there _ 0o100 0 _ (after_two _ 0o100 (omega (arith, c.requires.op_value)) c.if-op-eq64.false c.if-op-eq65.false) (omega arith), not_there _ 0o100 1 _ (after_two _ 0o100 (omega (arith, c.requires.op_value)) c.if-op-eq64.false c.if-op-eq65.false) (omega arith), h.own) (rw (c.plus-2.ensures, c.wide.ensures.0) at (c.load-2.ensures.0 lent out))), c.load-2.ensures.1)
+returns c = ((λ lent numbers h out. rw (c.requires.op_value, not_there _ 0o100 0 _ (after_two _ 0o100 (omega (arith, c.requires.op_value)) c.if-op-eq64.false c.if-op-eq65.false) (omega arith), not_there _ 0o100 1 _ (after_two _ 0o100 (omega (arith, c.requires.op_value)) c.if-op-eq64.false c.if-op-eq65.false) (omega arith), h.own) (rw c.plus-2.ensures at (c.load-2.ensures.0 lent out))), c.load-2.ensures.1)

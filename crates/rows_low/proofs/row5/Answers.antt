@@ -34,4 +34,4 @@ save-requires-2 c = omega (arith, short5 _ c.requires.op_value (after_two _ 0o12
 
 pub returns : goal.returns
 unfolding instruction decode_of stores
-returns c = ((λ lent numbers h out. rw (c.requires.op_value, not_there _ 0o120 0 _ (after_two _ 0o120 (omega (arith, c.requires.op_value)) c.if-op-eq80.false c.if-op-eq81.false) (omega arith), not_there _ 0o120 1 _ (after_two _ 0o120 (omega (arith, c.requires.op_value)) c.if-op-eq80.false c.if-op-eq81.false) (omega arith), h.own) (rw (c.plus-2.ensures, c.wide.ensures.0) at (c.save-2.ensures.0 lent out))), c.save-2.ensures.1)
+returns c = ((λ lent numbers h out. rw (c.requires.op_value, not_there _ 0o120 0 _ (after_two _ 0o120 (omega (arith, c.requires.op_value)) c.if-op-eq80.false c.if-op-eq81.false) (omega arith), not_there _ 0o120 1 _ (after_two _ 0o120 (omega (arith, c.requires.op_value)) c.if-op-eq80.false c.if-op-eq81.false) (omega arith), h.own) (rw c.plus-2.ensures at (c.save-2.ensures.0 lent out))), c.save-2.ensures.1)

@@ -4,4 +4,4 @@ use Rattle.rows_low.proofs.row7.Goals as goal
 
 pub returns : goal.returns
 unfolding instruction decode_of
-returns c = ((λ lent o out. rw c.requires.0 (rw c.wide.ensures.0 at (c.save_below.ensures.0 lent out))), c.save_below.ensures.1)
+returns c = ((λ lent o out. rw c.requires.0 (c.save_below.ensures.0 lent out)), c.save_below.ensures.1)

@@ -5,6 +5,7 @@ use Rattle.mcode.specs.Depths.{unmarked}
 use Rattle.depths.proofs.Lists.{get_d_any, free-pos}
 use native.Mathlib.Omega.{arith}
 use Rattle.walk.proofs.reach.Goals as goal
+use Rattle.walk.proofs.reach.Goals.{else-q-map-via-then-q-map+else-map-q, else-q-map-via-else-q-map}
 
 pub bounds-work-t : goal.bounds-work-t
 bounds-work-t c =
@@ -18,8 +19,15 @@ returns-then-map-q c =
     let l = c.if-q-map.true in
     inl (l, get_d_any a.map.now a.q unmarked 0 l ∙ c.if-map-q.true, refl, refl, refl)
 
-pub returns-else-map-q : goal.returns-else-map-q
-returns-else-map-q c = let a = c.args in inr ((λ l z. c.if-map-q.false (get_d_any a.map.now a.q 0 unmarked l ∙ z)), refl, refl, refl)
-
-pub returns-else-q-map : goal.returns-else-q-map
-returns-else-q-map c = inr ((λ l z. let y : ⊥ = omega (arith, l, c.if-q-map.false) in y), refl, refl, refl)
+pub returns : goal.returns
+returns c =
+    let a = c.args in
+    inr (
+      λ l z. elim c.else-q-map.branch [
+        | else-q-map-via-then-q-map+else-map-q w ↦ w.if-map-q.false (get_d_any a.map.now a.q 0 unmarked l ∙ z)
+        | else-q-map-via-else-q-map w ↦ omega (arith, l, w.if-q-map.false)
+      ],
+      refl,
+      refl,
+      refl,
+    )

@@ -1,12 +1,26 @@
+use Rattle.std.proofs.lemmas.Result.{err_from_is_err_and}
+use Rattle.std.proofs.Common.{sym}
 use Rattle.mcode.specs.Step.{perform_of}
-use Rattle.actions.proofs.Laws.{stays_at, stays-as}
-use Rattle.std.proofs.Common.{le-ltb, lt-ltb}
+use Rattle.actions.proofs.Laws.{picked, refused, stays_at, stays_err}
 use Rattle.actions.proofs.bytes.save_byte.Goals as goal
 
-pub returns-then-n-store : goal.returns-then-n-store
+pub returns : goal.returns
 unfolding perform_of
-returns-then-n-store c = ((λ lent out. rw (← c.second_of-i.ensures, ← c.third_of.ensures, ← c.wrapping_add_u16-n.ensures.value, lt-ltb _ _ c.if-n-store.true, ← c.top_of.ensures, ← c.with_byte.ensures, c.take_three.ensures.0, c.take_three.ensures.1)), stays_at _ _ _ _ _ _ c.requires.2 c.take_three.ensures.0)
+returns c =
+    let e = picked _ _ _ _ (sym c.in_ok-set_word.ensures.0) in
+    let f = picked _ _ _ _ (sym c.in_ok-word.ensures) in
+    ((λ lent out. rw (← c.nth_of-i.ensures, ← c.nth_of.ensures, c.set_word.ensures.1, e.0, f.1, ← c.nth_of-2.ensures, ← c.with_byte.ensures, c.take.ensures.0, c.take.ensures.1)), stays_at _ _ _ _ c.requires.2 c.take.ensures.0)
 
-pub returns-else-n-store : goal.returns-else-n-store
+pub returns-in_err-word : goal.returns-in_err-word
 unfolding perform_of
-returns-else-n-store c = ((λ lent out. rw (← c.second_of-i.ensures, ← c.third_of.ensures, ← c.wrapping_add_u16-n.ensures.value, le-ltb _ _ c.if-n-store.false, c.trapped.ensures)), stays-as _ _ _ _ c.trapped.ensures)
+returns-in_err-word c =
+    let p = err_from_is_err_and c.from_residual.result c.from_residual.ensures.1 in
+    let e = refused _ _ _ _ (sym c.in_err-word.ensures) in
+    ((λ lent out. rw (p.1, p.2, ← c.nth_of-i.ensures, ← c.nth_of.ensures, e.0, e.1)), stays_err _ _ _ p.1)
+
+pub returns-in_err-set_word : goal.returns-in_err-set_word
+unfolding perform_of
+returns-in_err-set_word c =
+    let p = err_from_is_err_and c.from_residual-in_err-set_word.result c.from_residual-in_err-set_word.ensures.1 in
+    let e = refused _ _ _ _ (sym c.in_err-set_word.ensures.0) in
+    ((λ lent out. rw (p.1, p.2, ← c.nth_of-i.ensures, ← c.nth_of.ensures, c.set_word.ensures.1, e.0, e.1)), stays_err _ _ _ p.1)

@@ -4,4 +4,4 @@ use Rattle.actions.proofs.compute.trap.Goals as goal
 
 pub returns : goal.returns
 unfolding perform_of
-returns c = ((λ lent to store out. rw (← c.top_of.ensures, c.halted.ensures)), stays-as _ _ _ _ c.halted.ensures)
+returns c = ((λ lent to store out. rw c.nth_of.ensures), stays-as _)

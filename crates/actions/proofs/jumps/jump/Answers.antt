@@ -4,4 +4,4 @@ use Rattle.actions.proofs.jumps.jump.Goals as goal
 
 pub returns : goal.returns
 unfolding perform_of
-returns c = ((λ lent to stack store out. rw c.gone.ensures), stays_at _ _ _ _ _ _ c.requires c.gone.ensures)
+returns c = ((λ lent to stack store out. rw c.gone.ensures), stays_at _ _ _ _ c.requires c.gone.ensures)

@@ -1,12 +1,18 @@
+use Rattle.std.proofs.lemmas.Result.{err_from_is_err_and}
+use Rattle.std.proofs.Common.{sym}
 use Rattle.mcode.specs.Step.{perform_of}
-use Rattle.actions.proofs.Laws.{stays-as}
-use Rattle.std.proofs.Common.{le-ltb, lt-ltb}
+use Rattle.actions.proofs.Laws.{picked, refused, stays_at, stays_err}
 use Rattle.actions.proofs.memory.load_indexed.Goals as goal
 
-pub returns-then-i-store : goal.returns-then-i-store
+pub returns : goal.returns
 unfolding perform_of
-returns-then-i-store c = ((λ lent out. rw (← c.second_of.ensures, ← c.top_of.ensures, ← c.wrapping_add_u16-i.ensures.value, lt-ltb _ _ c.if-i-store.true) (c.replace_two.ensures.0 _ out)), c.replace_two.ensures.1)
+returns c =
+    let e = picked _ _ _ _ (sym c.in_ok-word_at.ensures) in
+    ((λ lent out. rw (← c.nth_of.ensures, ← c.nth_of-2.ensures, e.0, e.1, c.replace.ensures.0, c.replace.ensures.1)), stays_at _ _ _ _ c.requires.2 c.replace.ensures.0)
 
-pub returns-else-i-store : goal.returns-else-i-store
+pub returns-in_err-word_at : goal.returns-in_err-word_at
 unfolding perform_of
-returns-else-i-store c = ((λ lent out. rw (← c.second_of.ensures, ← c.top_of.ensures, ← c.wrapping_add_u16-i.ensures.value, le-ltb _ _ c.if-i-store.false, c.trapped.ensures)), stays-as _ _ _ _ c.trapped.ensures)
+returns-in_err-word_at c =
+    let p = err_from_is_err_and c.from_residual.result c.from_residual.ensures.1 in
+    let e = refused _ _ _ _ (sym c.in_err-word_at.ensures) in
+    ((λ lent out. rw (p.1, p.2, ← c.nth_of.ensures, ← c.nth_of-2.ensures, e.0, e.1)), stays_err _ _ _ p.1)

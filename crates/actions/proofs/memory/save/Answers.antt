@@ -1,12 +1,18 @@
+use Rattle.std.proofs.lemmas.Result.{err_from_is_err_and}
+use Rattle.std.proofs.Common.{sym}
 use Rattle.mcode.specs.Step.{perform_of}
-use Rattle.actions.proofs.Laws.{stays_at, stays-as}
-use Rattle.std.proofs.Common.{le-ltb, lt-ltb}
+use Rattle.actions.proofs.Laws.{picked, refused, stays_at, stays_err}
 use Rattle.actions.proofs.memory.save.Goals as goal
 
-pub returns-then-i-store : goal.returns-then-i-store
+pub returns : goal.returns
 unfolding perform_of
-returns-then-i-store c = ((λ lent out. rw (lt-ltb _ _ c.if-i-store.true, c.take_word.ensures.0, c.take_word.ensures.1, c.top_of.ensures)), stays_at _ _ _ _ _ _ c.requires.2 c.take_word.ensures.0)
+returns c =
+    let e = picked _ _ _ _ (sym c.in_ok-set_word.ensures.0) in
+    ((λ lent out. rw (c.set_word.ensures.1, e.0, ← c.nth_of.ensures, c.take.ensures.0, c.take.ensures.1)), stays_at _ _ _ _ c.requires.2 c.take.ensures.0)
 
-pub returns-else-i-store : goal.returns-else-i-store
+pub returns-in_err-set_word : goal.returns-in_err-set_word
 unfolding perform_of
-returns-else-i-store c = ((λ lent out. rw (le-ltb _ _ c.if-i-store.false, c.trapped.ensures)), stays-as _ _ _ _ c.trapped.ensures)
+returns-in_err-set_word c =
+    let p = err_from_is_err_and c.from_residual.result c.from_residual.ensures.1 in
+    let e = refused _ _ _ _ (sym c.in_err-set_word.ensures.0) in
+    ((λ lent out. rw (p.1, p.2, c.set_word.ensures.1, e.0, e.1)), stays_err _ _ _ p.1)

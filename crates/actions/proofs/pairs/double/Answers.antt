@@ -4,4 +4,4 @@ use Rattle.actions.proofs.pairs.double.Goals as goal
 
 pub returns : goal.returns
 unfolding perform_of
-returns c = ((λ lent store out. rw (c.place.ensures.0, c.place.ensures.1, c.low_of-low.ensures, c.high_of-high.ensures, c.double_sums-n.ensures, c.paired-y.ensures, c.paired-x.ensures, c.top_of.ensures, c.second_of.ensures, c.third_of.ensures, c.fourth_of.ensures)), stays_at _ _ _ _ _ _ c.requires.4 c.place.ensures.0)
+returns c = ((λ lent store out. rw (c.place.ensures.0, c.place.ensures.1, c.low_of-low.ensures, c.high_of-high.ensures, c.double_sums-n.ensures, c.paired-y.ensures, c.paired-x.ensures, c.nth_of-4.ensures, c.nth_of-3.ensures, c.nth_of-2.ensures, c.nth_of.ensures)), stays_at _ _ _ _ c.requires.4 c.place.ensures.0)

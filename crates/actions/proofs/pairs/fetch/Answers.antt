@@ -10,8 +10,8 @@ bounds-store-j c = rw c.plus-low.ensures ((pair-fact _ _).inside ((pair-fact _ _
 
 pub returns-then-i-store : goal.returns-then-i-store
 unfolding PairFact
-returns-then-i-store c = ((λ out. rw ((pair-fact _ _).test c.requires.1, lt-ltb _ _ c.if-i-store.true, c.place.ensures.0, c.place.ensures.1, c.plus-low.ensures)), stays_at _ _ _ _ _ _ c.requires.2 c.place.ensures.0)
+returns-then-i-store c = ((λ out. rw ((pair-fact _ _).test c.requires.1, lt-ltb _ _ c.if-i-store.true, c.place.ensures.0, c.place.ensures.1, c.plus-low.ensures)), stays_at _ _ _ _ c.requires.2 c.place.ensures.0)
 
 pub returns-else-i-store : goal.returns-else-i-store
 unfolding PairFact
-returns-else-i-store c = ((λ out. rw ((pair-fact _ _).test c.requires.1, le-ltb _ _ c.if-i-store.false, c.trapped.ensures)), stays-as _ _ _ _ c.trapped.ensures)
+returns-else-i-store c = ((λ out. rw ((pair-fact _ _).test c.requires.1, le-ltb _ _ c.if-i-store.false)), stays-as _)

@@ -1,12 +1,18 @@
-use Rattle.std.proofs.Common.{sym, ◌∙◌}
+use Rattle.std.proofs.lemmas.Result.{err_from_is_err_and}
+use Rattle.std.proofs.Common.{sym}
 use Rattle.mcode.specs.Step.{perform_of}
-use Rattle.actions.proofs.Laws.{stays_at, stays-as}
+use Rattle.actions.proofs.Laws.{picked, refused, stays_at, stays_err}
 use Rattle.actions.proofs.pairs.save_pair.Goals as goal
 
-pub returns-then-write : goal.returns-then-write
+pub returns : goal.returns
 unfolding perform_of
-returns-then-write c = ((λ lent out. rw (c.take_two.ensures.0, c.take_two.ensures.1, c.write.ensures.1, sym c.write.ensures.0 ∙ c.if-write.true, ← c.second_of.ensures, ← c.top_of.ensures)), stays_at _ _ _ _ _ _ c.requires.3 c.take_two.ensures.0)
+returns c =
+    let e = picked _ _ _ _ (sym c.in_ok-write.ensures.0) in
+    ((λ lent out. rw (c.take.ensures.0, c.take.ensures.1, c.write.ensures.1, e.0, ← c.nth_of.ensures, ← c.nth_of-2.ensures)), stays_at _ _ _ _ c.requires.3 c.take.ensures.0)
 
-pub returns-else-write : goal.returns-else-write
+pub returns-in_err-write : goal.returns-in_err-write
 unfolding perform_of
-returns-else-write c = ((λ lent out. rw (c.trapped.ensures, c.write.ensures.1, sym c.write.ensures.0 ∙ c.if-write.false)), stays-as _ _ _ _ c.trapped.ensures)
+returns-in_err-write c =
+    let p = err_from_is_err_and c.from_residual.result c.from_residual.ensures.1 in
+    let e = refused _ _ _ _ (sym c.in_err-write.ensures.0) in
+    ((λ lent out. rw (p.1, p.2, c.write.ensures.1, e.0, e.1)), stays_err _ _ _ p.1)

@@ -1,7 +1,8 @@
--- The fields that the form spells out are the definition's.
-use mathlib.Core.Path.{refl}
-use Rattle.archive.proofs.Needed.{needed-so}
+use Rattle.std.proofs.Common.{refl, rules}
+use Rattle.archive.proofs.Needed.{named-so, needed-so}
 use Rattle.archive.proofs.fields.fields_of.Goals as goal
 
 pub returns : goal.returns
-returns c = needed-so c.args.image.now c.args.begin c.args.m _ _ _ refl c.is_default-listing.ensures c.has_name-named.ensures
+returns c =
+    let p = c.args.p in
+    needed-so p.image.now p.begin p.m _ _ _ refl c.is_default.ensures (named-so p.image.now p.begin p.m _ c.name.ensures _ _ (λ x k. search rules) c.is_some_and.ensures)

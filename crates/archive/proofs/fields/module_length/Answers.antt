@@ -1,20 +1,14 @@
--- The length of a module's form is the sum of its fields'.
-use Prim.Native.Nat.{◌+◌, ◌*◌}
-use Rattle.archive.proofs.Needed.{length-form, picked}
-use native.Mathlib.Omega.{arith}
+use Rattle.std.proofs.Common.{◌≡◌, ◌+◌, ◌*◌}
+use Rattle.mcode.specs.Word.{pick}
+use Rattle.archive.proofs.Needed.{length-form}
+use Rattle.archive.proofs.fields.module_length.Goals.{then-f, else-f, then-f-2, else-f-2, then-f-3, else-f-3}
 use Rattle.archive.proofs.fields.module_length.Goals as goal
 
-pub overflow_add-result : goal.overflow_add-result
-overflow_add-result c = omega (arith, c.requires.sound.short, picked c.fields_of-f.result.sized 2 _ c.when-sized.ensures, picked c.fields_of-f.result.listing (1 + 4 * c.args.m.procs) _ c.when-listing.ensures, picked c.fields_of-f.result.named 8 _ c.when-named.ensures, c.struct_known-1.given)
-
-pub overflow_add-result-2 : goal.overflow_add-result-2
-overflow_add-result-2 c = omega (arith, c.requires.sound.short, picked c.fields_of-f.result.sized 2 _ c.when-sized.ensures, picked c.fields_of-f.result.listing (1 + 4 * c.args.m.procs) _ c.when-listing.ensures, picked c.fields_of-f.result.named 8 _ c.when-named.ensures, c.struct_known-1.given)
-
-pub overflow_add-result-3 : goal.overflow_add-result-3
-overflow_add-result-3 c = omega (arith, c.requires.sound.short, picked c.fields_of-f.result.sized 2 _ c.when-sized.ensures, picked c.fields_of-f.result.listing (1 + 4 * c.args.m.procs) _ c.when-listing.ensures, picked c.fields_of-f.result.named 8 _ c.when-named.ensures, c.struct_known-1.given)
-
-pub overflow_add-result-4 : goal.overflow_add-result-4
-overflow_add-result-4 c = omega (arith, c.requires.sound.short, picked c.fields_of-f.result.sized 2 _ c.when-sized.ensures, picked c.fields_of-f.result.listing (1 + 4 * c.args.m.procs) _ c.when-listing.ensures, picked c.fields_of-f.result.named 8 _ c.when-named.ensures, c.struct_known-1.given)
-
 pub returns : goal.returns
-returns c = length-form c.args.image.now c.args.begin c.args.m c.requires _ c.fields_of-f.ensures _ _ _ c.when-sized.ensures c.when-listing.ensures c.when-named.ensures
+returns c =
+    let p = c.args.p in
+    let f = c.fields_of-f.result in
+    let s : c.if-f.sized ≡ pick f.sized 2 0 = elim c.if-f.branch [ then-f w ↦ rw w.if-f.true w.sized-is | else-f w ↦ rw w.if-f.false w.sized-is ] in
+    let l : c.if-f-2.listing ≡ pick f.listing (1 + 4 * p.m.procs) 0 = elim c.if-f-2.branch [ then-f-2 w ↦ rw w.if-f-2.true w.listing-is | else-f-2 w ↦ rw w.if-f-2.false w.listing-is ] in
+    let n : c.if-f-3.named ≡ pick f.named 8 0 = elim c.if-f-3.branch [ then-f-3 w ↦ rw w.if-f-3.true w.named-is | else-f-3 w ↦ rw w.if-f-3.false w.named-is ] in
+    length-form p.image.now p.begin p.m p.lies f c.fields_of-f.ensures _ _ _ s l n

@@ -1,48 +1,33 @@
--- The seven pieces of a module, one behind another, are its form.
-use mathlib.Core.Path.{◌≡◌}
-use Prim.Native.Nat.{◌+◌, ◌-◌}
-use Rattle.mcode.proofs.Lies.{name-lies}
-use Rattle.archive.proofs.Pieces.{name-stands, map-room, size_room, count_room, name-room, long-room, records-room, code-room, module-put}
-use native.Mathlib.Omega.{arith}
+use Rattle.std.proofs.Common.{◌≡◌, ◌∷◌, ◌++◌, [], ◌∙◌, ap, sym, subst, arith, ℕ, ◌+◌, ◌-◌, ◌*◌, ◌/◌, ◌%◌, List}
+use Rattle.mcode.specs.Word.{slice}
+use Rattle.mcode.specs.Archive.{given, module_form}
+use Rattle.archive.specs.Form.{content, Room}
+use Rattle.archive.proofs.Pieces.{name-is, form-is}
+use Rattle.archive.proofs.form.write_module.Goals.{After-given-4}
 use Rattle.archive.proofs.form.write_module.Goals as goal
 
-pub put_byte-a1-requires : goal.put_byte-a1-requires
-put_byte-a1-requires c = map-room c.args.image.now c.args.begin c.args.m c.fields_of-f.result _ c.bit_map.ensures c.requires.lies c.fields_of-f.ensures (λ i. omega (arith, c.type_inv.image i)) c.args.at c.args.output.now c.requires.m_in_bounds
-
-pub put_size-a2-requires : goal.put_size-a2-requires
-put_size-a2-requires c = size_room c.args.image.now c.args.begin c.args.m c.fields_of-f.result _ c.bit_map.ensures c.requires.lies c.fields_of-f.ensures (λ i. omega (arith, c.type_inv.image i)) c.args.at c.args.output.now c.requires.m_in_bounds _ _ c.put_byte-a1.ensures
-
-pub put_count-a3-requires : goal.put_count-a3-requires
-put_count-a3-requires c = record { procs_bound = c.requires.lies.sound.few (λ i. omega (arith, c.type_inv.image i)); procs_in_bounds = count_room c.args.image.now c.args.begin c.args.m c.fields_of-f.result _ c.bit_map.ensures c.requires.lies c.fields_of-f.ensures (λ i. omega (arith, c.type_inv.image i)) c.args.at c.args.output.now c.requires.m_in_bounds _ _ c.put_byte-a1.ensures _ _ c.put_size-a2.ensures }
-
-pub put_name-a4-requires : goal.put_name-a4-requires
-put_name-a4-requires c =
-    let a = c.args in record { le_table = λ n. name-lies a.image.now a.begin a.m c.requires.lies (name-stands a.image.now a.begin a.m c.fields_of-f.result _ c.bit_map.ensures c.requires.lies c.fields_of-f.ensures n); table_in_bounds = name-room c.args.image.now c.args.begin c.args.m c.fields_of-f.result _ c.bit_map.ensures c.requires.lies c.fields_of-f.ensures (λ i. omega (arith, c.type_inv.image i)) c.args.at c.args.output.now c.requires.m_in_bounds _ _ c.put_byte-a1.ensures _ _ c.put_size-a2.ensures _ _ c.put_count-a3.ensures }
-
-pub put_word-a5-requires : goal.put_word-a5-requires
-put_word-a5-requires c = long-room c.args.image.now c.args.begin c.args.m c.fields_of-f.result _ c.bit_map.ensures c.requires.lies c.fields_of-f.ensures (λ i. omega (arith, c.type_inv.image i)) c.args.at c.args.output.now c.requires.m_in_bounds _ _ c.put_byte-a1.ensures _ _ c.put_size-a2.ensures _ _ c.put_count-a3.ensures _ _ c.put_name-a4.ensures
-
-pub put_records-a6-requires : goal.put_records-a6-requires
-put_records-a6-requires c = record { procs_in_bounds = omega (arith, c.requires.lies.spelt.code, c.requires.lies.sound.within); procs_in_bounds_2 = records-room c.args.image.now c.args.begin c.args.m c.fields_of-f.result _ c.bit_map.ensures c.requires.lies c.fields_of-f.ensures (λ i. omega (arith, c.type_inv.image i)) c.args.at c.args.output.now c.requires.m_in_bounds _ _ c.put_byte-a1.ensures _ _ c.put_size-a2.ensures _ _ c.put_count-a3.ensures _ _ c.put_name-a4.ensures _ _ c.put_word-a5.ensures }
-
-pub overflow_add-e : goal.overflow_add-e
-overflow_add-e c = omega (arith, c.requires.lies.sound.within, c.requires.lies.brief)
-
-pub slice_bounds-copy-end : goal.slice_bounds-copy-end
-slice_bounds-copy-end c = omega (arith, c.requires.lies.sound.within)
-
-pub copy-requires : goal.copy-requires
-copy-requires c =
-    let m = c.args.m in
+-- the pieces are the form
+pieces : (c : After-given-4)
+    → c.bit_map.result ∷ (c.given.result.now ++ (c.given-2.result.now ++ (c.given-3.result.now ++ (c.to_be_bytes-length.result ++ (c.given-4.result.now ++ (slice c.args.p.image.now c.args.p.m.code (c.args.p.m.code + c.args.p.m.length - c.args.p.m.code) ++ []))))))
+    ≡ module_form (content c.args.p)
+pieces c =
+    let p = c.args.p in
+    let m = p.m in
+    let f = c.fields_of-f.result in
+    let s : m.size / 256 % 256 ≡ m.size / 256 = omega arith in
+    let l : m.length / 256 % 256 ≡ m.length / 256 = omega arith in
+    let r : m.table + 4 * m.procs - m.table ≡ 4 * m.procs = omega arith in
     let n : m.code + m.length - m.code ≡ m.length = omega arith in
-    rw n (code-room c.args.image.now c.args.begin c.args.m c.fields_of-f.result _ c.bit_map.ensures c.requires.lies c.fields_of-f.ensures (λ i. omega (arith, c.type_inv.image i)) c.args.at c.args.output.now c.requires.m_in_bounds _ _ c.put_byte-a1.ensures _ _ c.put_size-a2.ensures _ _ c.put_count-a3.ensures _ _ c.put_name-a4.ensures _ _ c.put_word-a5.ensures _ _ c.put_records-a6.ensures)
+    form-is p.image.now p.begin m f c.fields_of-f.ensures p.in_range p.lies _ _ _ _ _ _ _ c.bit_map.ensures
+    (c.given.ensures ∙ ap (λ (x : List ℕ). given f.sized x) (rw s at c.to_be_bytes-size.ensures))
+    c.given-2.ensures
+    (c.given-3.ensures ∙ name-is p.image.now p.begin m f c.fields_of-f.ensures c.name.result c.name.ensures _ _ c.unwrap_or-name.ensures)
+    (rw l at c.to_be_bytes-length.ensures)
+    (rw r at c.given-4.ensures)
+    (ap (λ (k : ℕ). slice p.image.now m.code k) n)
 
-pub shape_of-output : goal.shape_of-output
-shape_of-output c =
-    omega (arith, c.copy.auto.output, c.put_records-a6.auto.output, c.put_word-a5.auto.output, c.put_name-a4.auto.output, c.put_count-a3.auto.output, c.put_size-a2.auto.output, c.put_byte-a1.auto.output)
+pub put_all-requires : goal.put_all-requires
+put_all-requires c = subst (λ (x : List ℕ). Room x c.args.out.now) (sym (pieces (goal.at.put_all-requires c).After-given-4)) c.requires
 
 pub returns : goal.returns
-returns c =
-    let m = c.args.m in
-    let n : m.code + m.length - m.code ≡ m.length = omega arith in
-    module-put c.args.image.now c.args.begin c.args.m c.fields_of-f.result _ c.bit_map.ensures c.requires.lies c.fields_of-f.ensures (λ i. omega (arith, c.type_inv.image i)) c.args.at c.args.output.now c.requires.m_in_bounds _ _ c.put_byte-a1.ensures _ _ c.put_size-a2.ensures _ _ c.put_count-a3.ensures _ _ c.put_name-a4.ensures _ _ c.put_word-a5.ensures _ _ c.put_records-a6.ensures _ _ (rw n at c.copy.ensures)
+returns c = (c.put_all.ensures.0, rw (pieces (goal.at.returns c).After-given-4) at c.put_all.ensures.1)

@@ -1,10 +1,10 @@
-use mathlib.Core.Path.{ap, ◌∙◌}
-use Rattle.mcode.specs.Step.{written}
-use Rattle.capi.specs.Words.{words_of}
-use Rattle.capi.proofs.Written.{overwritten}
 use native.Mathlib.Omega.{arith}
+use Rattle.mcode.proofs.Zeros.{length-written}
+use Rattle.capi.specs.Words.{register_words}
+use Rattle.capi.proofs.Written.{packed}
 use Rattle.capi.proofs.packing.pack.Goals as goal
 
 pub returns : goal.returns
-unfolding written
-returns c = c.put_stack.ensures.0 ∙ ap (written c.args.machine.stack 8) c.put_registers.ensures ∙ overwritten (words_of c.args.machine) c.args.words.now (omega (arith, c.requires.0, c.put_stack.ensures.1))
+returns c =
+    let front = register_words c.args.machine.registers in
+    rw (c.put_registers.ensures, c.copy_from_slice.ensures.after, length-written front 0 c.args.words.now) (packed front c.args.words.now c.args.machine.stack (omega (arith, c.requires.0)))

@@ -7,7 +7,7 @@ use Rattle.control.proofs.calls.call.Goals as goal
 
 pub returns-then-h-s : goal.returns-then-h-s
 unfolding perform_of call
-returns-then-h-s c = ((λ lent marks words h stack out. rw (lt-ltb _ _ c.if-h-s.true, c.trapped.ensures)), stays-as _ _ _ _ c.trapped.ensures)
+returns-then-h-s c = ((λ lent marks words h stack out. rw (lt-ltb _ _ c.if-h-s.true)), stays-as _)
 
 pub overflow_sub-to : goal.overflow_sub-to
 overflow_sub-to c = omega (arith, c.requires.n_bound)

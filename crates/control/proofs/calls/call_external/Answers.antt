@@ -1,12 +1,12 @@
 use Rattle.mcode.specs.Step.{perform_of, call}
-use Rattle.control.proofs.Laws.{based, anchored-in, anchored-as, from_start}
+use Rattle.control.proofs.Laws.{based, anchored-in, from_start}
 use native.Mathlib.Omega.{arith}
 use borrow.Author.Tests.{lt-ltb, le-ltb}
 use Rattle.control.proofs.calls.call_external.Goals as goal
 
 pub returns-then-h-s : goal.returns-then-h-s
 unfolding perform_of call
-returns-then-h-s c = ((λ lent marks words h stack out. rw (lt-ltb _ _ c.if-h-s.true, c.trapped.ensures)), anchored-as _ _ _ _ c.requires.anchored c.trapped.ensures)
+returns-then-h-s c = ((λ lent marks words h stack out. rw (lt-ltb _ _ c.if-h-s.true)), c.requires.anchored)
 
 pub overflow_add-t : goal.overflow_add-t
 overflow_add-t c = omega (arith, c.if-h-s.false, c.struct_known-2-1.given)

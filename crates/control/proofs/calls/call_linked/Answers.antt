@@ -7,7 +7,7 @@ use Rattle.control.proofs.calls.call_linked.Goals as goal
 
 pub returns-then-h-s : goal.returns-then-h-s
 unfolding perform_of call
-returns-then-h-s c = ((λ lent marks words h out. rw (lt-ltb _ _ c.if-h-s.true, c.trapped.ensures)), stays-as _ _ _ _ c.trapped.ensures)
+returns-then-h-s c = ((λ lent marks words h out. rw (lt-ltb _ _ c.if-h-s.true)), stays-as _)
 
 pub overflow_sub-to : goal.overflow_sub-to
 overflow_sub-to c = omega (arith, c.requires.n_bound)
@@ -24,6 +24,6 @@ overflow_add-r c = omega (arith, c.requires.n_bound, c.entry_of-entry.type_inv)
 pub returns : goal.returns
 unfolding perform_of call
 returns c = (
-  (λ lent marks words h out. rw (le-ltb _ _ c.if-h-s.false, h.image, h.tabled.modules c.args.r.unit (omega (arith, c.requires.entered.few, c.requires.framed.loaded)), ← c.entry_of-entry.ensures, ← c.top_of-link.ensures, c.framed.ensures, c.write_frame.ensures, from_start)),
+  (λ lent marks words h out. rw (le-ltb _ _ c.if-h-s.false, h.image, h.tabled.modules c.args.r.unit (omega (arith, c.requires.entered.few, c.requires.framed.loaded)), ← c.entry_of-entry.ensures, ← c.nth_of-link.ensures, c.framed.ensures, c.write_frame.ensures, from_start)),
   stays-framed _ _ _ _ c.args.r _ (after-start _ _) c.framed.ensures,
 )

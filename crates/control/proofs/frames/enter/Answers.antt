@@ -6,7 +6,7 @@ use Rattle.control.proofs.frames.enter.Goals as goal
 
 pub returns-then-h-s : goal.returns-then-h-s
 unfolding perform_of
-returns-then-h-s c = ((λ lent stack store out. rw (lt-ltb _ _ c.if-h-s.true, c.trapped.ensures)), stays-as _ _ _ _ c.trapped.ensures)
+returns-then-h-s c = ((λ lent stack store out. rw (lt-ltb _ _ c.if-h-s.true)), stays-as _)
 
 pub returns : goal.returns
 unfolding perform_of

@@ -1,15 +1,15 @@
 use Rattle.mcode.specs.Step.{perform_of, returned}
-use Rattle.control.proofs.Laws.{anchored-as, anchored-on}
+use Rattle.control.proofs.Laws.{anchored-on}
 use borrow.Author.Tests.{ne_eqb, lt-ltb, le-ltb, eq-eqb}
 use Rattle.control.proofs.frames.return_from.Goals as goal
 
 pub returns-then-r : goal.returns-then-r
 unfolding perform_of returned
-returns-then-r c = ((λ lent bytes words h to stack out. rw (lt-ltb _ _ c.if-r.true, c.trapped.ensures)), anchored-as _ _ _ _ c.requires.anchored c.trapped.ensures)
+returns-then-r c = ((λ lent bytes words h to stack out. rw (lt-ltb _ _ c.if-r.true)), c.requires.anchored)
 
 pub returns-then-word-eq32767 : goal.returns-then-word-eq32767
 unfolding perform_of returned
-returns-then-word-eq32767 c = ((λ lent bytes words h to stack out. rw (le-ltb _ _ c.if-r.false, eq-eqb _ _ c.if-word-eq32767.true, c.trapped-then-word-eq32767.ensures)), anchored-as _ _ _ _ c.requires.anchored c.trapped-then-word-eq32767.ensures)
+returns-then-word-eq32767 c = ((λ lent bytes words h to stack out. rw (le-ltb _ _ c.if-r.false, eq-eqb _ _ c.if-word-eq32767.true)), c.requires.anchored)
 
 pub returns-then-word-lt32768 : goal.returns-then-word-lt32768
 unfolding perform_of returned

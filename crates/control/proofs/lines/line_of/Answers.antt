@@ -4,9 +4,6 @@ use lib.Bits.{or_lt}
 use Rattle.mcode.proofs.Requests.{open-lines}
 use Rattle.control.proofs.lines.line_of.Goals as goal
 
-pub overflow_sub-mask : goal.overflow_sub-mask
-overflow_sub-mask c = let h = or_lt 16 c.args.mask c.args.held (omega (arith, c.ranges.mask)) (omega (arith, c.ranges.held)) in omega (arith, h)
-
 pub returns : goal.returns
 returns c =
     let a = c.args in

@@ -7,5 +7,5 @@ operand-requires c = c.requires.1 c.if-op-eq240.true
 pub returns-then-op-eq240 : goal.returns-then-op-eq240
 returns-then-op-eq240 c = rw (eq-eqb _ _ c.if-op-eq240.true) c.operand.ensures.0
 
-pub returns : goal.returns
-returns c = rw (ne_eqb _ _ c.if-op-eq240.false) c.wide.ensures.0
+pub returns-else-op-eq240 : goal.returns-else-op-eq240
+returns-else-op-eq240 c = rw (ne_eqb _ _ c.if-op-eq240.false)

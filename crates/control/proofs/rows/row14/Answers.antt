@@ -2,7 +2,7 @@ use mathlib.Core.Logic.{inl}
 use Rattle.mcode.specs.Opcode.{lengths, takens, lefts}
 use Rattle.mcode.specs.Decode.{decode_of, row14}
 use Rattle.actions.specs.Core.{performed, instruction}
-use Rattle.control.proofs.Laws.{anchored-as, anchored-on}
+use Rattle.control.proofs.Laws.{anchored-on}
 use Rattle.control.proofs.Decoded.{follow_one, is353, is356}
 use native.Mathlib.Omega.{arith}
 use Rattle.control.proofs.rows.row14.Goals as goal
@@ -84,7 +84,7 @@ enter-requires c = omega (arith, c.requires.anchored.own)
 
 pub returns-in-224 : goal.returns-in-224
 unfolding performed instruction decode_of row14
-returns-in-224 c = ((λ lent words h out. rw (c.in-224.is, c.trapped.ensures)), anchored-as _ _ _ _ c.requires.anchored c.trapped.ensures)
+returns-in-224 c = ((λ lent words h out. rw (c.in-224.is)), c.requires.anchored)
 
 pub returns-in-232 : goal.returns-in-232
 unfolding performed instruction decode_of row14

@@ -6,7 +6,7 @@ use Rattle.control.proofs.saves.save.Goals as goal
 
 pub returns-then-r-top : goal.returns-then-r-top
 unfolding perform_of stack_saved
-returns-then-r-top c = ((λ lent out. rw (lt-ltb _ _ c.if-r-top.true, c.trapped.ensures)), stays-as _ _ _ _ c.trapped.ensures)
+returns-then-r-top c = ((λ lent out. rw (lt-ltb _ _ c.if-r-top.true)), stays-as _)
 
 pub returns : goal.returns
 unfolding perform_of stack_saved

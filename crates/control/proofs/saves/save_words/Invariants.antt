@@ -1,11 +1,6 @@
-use mathlib.Core.Path.{◌≡◌}
-use Prim.Native.Nat.{◌+◌, ◌≤◌}
-use lib.ListN.{length}
+use Rattle.std.proofs.Common.{◌≡◌, ◌+◌, ◌-◌}
 use Rattle.mcode.specs.Step.{saved}
 use Rattle.control.proofs.saves.save_words.Given as goal
 
-abbrev pub invariant-loop-n : goal.invariant-loop-n
-invariant-loop-n l = (l.n ≤ l.d) × (l.i + l.n ≡ l.s + l.d) × (length l.store ≡ length l.initial.store) × (saved l.stack l.d l.s l.initial.store ≡ saved l.stack l.n l.i l.store)
-
-abbrev pub decreases-loop-n : goal.decreases-loop-n
-decreases-loop-n l = l.n
+abbrev pub invariant-loop-i : goal.invariant-loop-i
+invariant-loop-i l = saved l.stack l.d l.s l.initial.store ≡ saved l.stack (l.d - l.i) (l.s + l.i) l.store

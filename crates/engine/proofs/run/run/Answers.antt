@@ -1,13 +1,10 @@
-use mathlib.Core.Path.{refl}
+use mathlib.Core.Path.{refl, ◌∙◌}
 use Rattle.engine.proofs.Turns.{refused-run, stopped-run}
-use native.Mathlib.Omega.{arith}
+use Rattle.loader.proofs.Early.{numbered}
 use Rattle.engine.proofs.run.run.Goals as goal
 
-pub returns-then-refusal-ge1 : goal.returns-then-refusal-ge1
-returns-then-refusal-ge1 c = refused-run _ _ _ _ _ _ (c.judge-judged.ensures.refusal _ _ _ refl refl refl) c.if-refusal-ge1.true
+pub returns-in-Ok : goal.returns-in-Ok
+returns-in-Ok c = c.steps.ensures ∙ stopped-run _ _ _ _ _ (c.in-Ok.ensures.0 _ _ _ refl refl refl)
 
-pub steps-s-requires : goal.steps-s-requires
-steps-s-requires c = c.judge-judged.ensures.passed (omega arith)
-
-pub returns : goal.returns
-returns c = stopped-run _ _ _ _ _ _ (c.judge-judged.ensures.refusal _ _ _ refl refl refl) c.if-refusal-ge1.false c.steps-s.ensures
+pub returns-in-Err : goal.returns-in-Err
+returns-in-Err c = refused-run _ _ _ _ _ _ (c.in-Err.ensures _ _ _ refl refl refl) (numbered c.in-Err.refusal)

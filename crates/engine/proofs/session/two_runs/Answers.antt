@@ -1,18 +1,14 @@
-use mathlib.Core.Path.{refl, ◌∙◌}
+use Rattle.std.proofs.lemmas.Result.{err_from_is_err_and}
 use Rattle.engine.proofs.Closed.{load-ends, start-ends, both_run}
 use Rattle.engine.proofs.session.two_runs.Goals as goal
 
-pub returns-then-number-ge1 : goal.returns-then-number-ge1
-returns-then-number-ge1 c = load-ends _ _ _ _ _ _ _ _ c.load-verdict.ensures _ c.if-number-ge1.true c.no_session.ensures.0 c.no_session.ensures.1 c.no_session.ensures.2
+pub returns-in_err-load : goal.returns-in_err-load
+returns-in_err-load c = let p = err_from_is_err_and c.from_residual.result c.from_residual.ensures.1 in rw (p.1, p.2) (load-ends _ _ _ _ _ _ _ _ c.in_err-load.ensures)
 
-pub returns-then-refusal-ge1 : goal.returns-then-refusal-ge1
-returns-then-refusal-ge1 c = start-ends _ _ _ _ _ _ _ _ c.load-verdict.ensures _ c.if-number-ge1.false _ c.start-started.ensures c.if-refusal-ge1.true c.no_session-then-refusal-ge1.ensures.0 c.no_session-then-refusal-ge1.ensures.1 c.no_session-then-refusal-ge1.ensures.2
-
-pub shape_of-map : goal.shape_of-map
-shape_of-map c = c.load-verdict.auto.map
-
-pub shape_of-store : goal.shape_of-store
-shape_of-store c = c.run-second.auto.store ∙ c.run-first.auto.store ∙ c.start-started.auto.store
+pub returns-in_err-machine : goal.returns-in_err-machine
+returns-in_err-machine c =
+    let p = err_from_is_err_and c.from_residual-in_err-machine.result c.from_residual-in_err-machine.ensures.1 in
+    rw (p.1, p.2) (start-ends _ _ _ _ _ _ _ c.in_ok-load.ensures _ _ c.in_err-machine.ensures)
 
 pub returns : goal.returns
-returns c = both_run _ _ _ _ _ _ _ _ c.load-verdict.ensures _ c.if-number-ge1.false _ c.start-started.ensures c.if-refusal-ge1.false refl _ _ _ _ c.run-first.ensures c.run-second.ensures
+returns c = both_run _ _ _ _ _ _ _ c.in_ok-load.ensures _ _ c.in_ok-machine.ensures _ _ _ _ _ _ c.run-first.ensures c.run-second.ensures

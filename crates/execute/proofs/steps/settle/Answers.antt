@@ -1,8 +1,9 @@
+use Rattle.std.proofs.Common.{refl}
 use Rattle.execute.proofs.Went.{settled-goes, settled-stops}
 use Rattle.execute.proofs.steps.settle.Goals as goal
 
-pub returns-then-s-eq0 : goal.returns-then-s-eq0
-returns-then-s-eq0 c = ((λ lent bytes words h x o out e. settled-goes lent x o _ e c.if-s-eq0.true), c.requires.anchored)
+pub returns-in-Ok : goal.returns-in-Ok
+returns-in-Ok c = ((λ lent bytes words h x o out e. settled-goes lent x o _ (rw c.in-Ok.is at e) refl), rw c.in-Ok.is at c.requires.anchored.1)
 
-pub returns : goal.returns
-returns c = ((λ lent bytes words h x o out e. settled-stops lent x o _ e c.if-s-eq0.false _ (λ k i j. c.catch_trap.ensures.0 lent bytes words h k i j out)), c.catch_trap.ensures.1)
+pub returns-in-Err : goal.returns-in-Err
+returns-in-Err c = ((λ lent bytes words h x o out e. settled-stops lent x o _ c.in-Err.stop (rw c.in-Err.is at e) refl _ (c.catch_trap.ensures.0 lent bytes words h out)), c.catch_trap.ensures.1)

@@ -1,18 +1,17 @@
-use mathlib.Core.Path.{refl}
+use Rattle.std.proofs.Common.{refl, ap, length, arith}
 use Rattle.listing.specs.Cell.{mark_text}
 use Rattle.listing.proofs.Cells.{depth_small, results-small, saves-small}
-use native.Mathlib.Omega.{arith}
 use Rattle.listing.proofs.cell.cell_of.Goals as goal
 
-pub with_number-depth-requires : goal.with_number-depth-requires
-with_number-depth-requires c = (omega arith, rw c.depth_of.ensures (depth_small c.args.mark))
+pub push_number-requires-clause-small : goal.push_number-requires-clause-small
+push_number-requires-clause-small c = rw c.depth_of.ensures (depth_small c.args.mark)
 
-pub with_results-promised-requires : goal.with_results-promised-requires
-with_results-promised-requires c = (omega (arith, c.with_number-depth.ensures.1), rw c.promised_of.ensures (results-small c.args.mark))
+pub push_results-requires-clause-small : goal.push_results-requires-clause-small
+push_results-requires-clause-small c = rw c.promised_of.ensures (results-small c.args.mark)
 
-pub with_saves-requires : goal.with_saves-requires
-with_saves-requires c = omega (arith, c.with_number-depth.ensures.1, c.with_results-promised.ensures.1, c.saves_of.ensures, saves-small c.args.mark)
+pub push_saves-requires : goal.push_saves-requires
+push_saves-requires c = omega (arith, ap length c.new-cell.ensures, c.push_number.ensures.letters, c.push_results.ensures.letters, c.saves_of.ensures, saves-small c.args.mark)
 
-pub returns : goal.returns
+pub returns-clause-text : goal.returns-clause-text
 unfolding mark_text
-returns c = (rw (c.with_saves.ensures.0, c.with_results-promised.ensures.0, c.with_number-depth.ensures.0, c.depth_of.ensures, c.promised_of.ensures, c.saves_of.ensures, c.list_of.ensures) refl, c.with_saves.ensures.1)
+returns-clause-text c = rw (c.push_saves.ensures.text, c.push_results.ensures.text, c.push_number.ensures.text, c.new-cell.ensures, c.depth_of.ensures, c.promised_of.ensures, c.saves_of.ensures, c.list_of.ensures) refl

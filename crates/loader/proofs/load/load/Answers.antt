@@ -1,13 +1,11 @@
 -- The answer of load is the one that the rules determine, from the answers of the reader and of the load of a program.
-use Rattle.loader.proofs.Answers.{refused-so, read-so}
+use Rattle.std.proofs.lemmas.Result.{err_from_is_err_and}
+use Rattle.loader.proofs.Answers.{refused-so}
 use Rattle.loader.proofs.Begin.{read_told}
 use Rattle.loader.proofs.load.load.Goals as goal
 
-pub returns-then-refusal-ge1 : goal.returns-then-refusal-ge1
-returns-then-refusal-ge1 c = refused-so _ _ _ c.read_image-parsed.ensures _ c.if-refusal-ge1.true c.answer.ensures
+pub returns-in_err-program : goal.returns-in_err-program
+returns-in_err-program c = let p = err_from_is_err_and c.from_residual.result c.from_residual.ensures.1 in rw (p.1, p.2) (refused-so _ _ _ c.in_err-program.ensures)
 
 pub load_program-requires : goal.load_program-requires
-load_program-requires c = read_told _ _ c.read_image-parsed.ensures c.if-refusal-ge1.false
-
-pub returns : goal.returns
-returns c = read-so _ _ _ c.read_image-parsed.ensures _ c.if-refusal-ge1.false _ c.load_program.ensures
+load_program-requires c = read_told _ _ c.in_ok-program.ensures

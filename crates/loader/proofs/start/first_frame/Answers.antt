@@ -1,15 +1,8 @@
-use lib.ListN.{length-set}
 use mathlib.Core.Path.{◌≡◌}
 use Prim.Native.Nat.{◌+◌}
 use native.Mathlib.Omega.{arith}
 use Rattle.mcode.specs.Step.{written}
 use Rattle.loader.proofs.start.first_frame.Goals as goal
-
-pub bounds-store-end-2 : goal.bounds-store-end-2
-bounds-store-end-2 c = simp length-set (omega arith)
-
-pub bounds-store-end-3 : goal.bounds-store-end-3
-bounds-store-end-3 c = simp length-set (omega arith)
 
 pub returns : goal.returns
 unfolding written

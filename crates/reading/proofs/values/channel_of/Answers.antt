@@ -1,20 +1,29 @@
-use mathlib.Core.Path.{refl, sym, ◌∙◌}
-use borrow.Author.Tests.{le-leb, lt-leb}
-use Rattle.reading.specs.Values.{channel_of}
+-- Without a value there are no words.
+use Rattle.std.proofs.Common.{◌≡◌, ℕ, Bool, true, false, List, [], Option, Some, None, leb, refl, sym, ◌∙◌, arith}
+use lib.ListN.{drop_of_length-le}
+use borrow.Author.Tests.{ltb-false}
+use Rattle.mcode.specs.Word.{and, pick}
+use Rattle.console.specs.Choices.{has_value, value_of, name_of}
+use Rattle.console.specs.Decimals.{number_of}
+use Rattle.reading.specs.Values.{are_words, channel_by}
 use Rattle.reading.proofs.values.channel_of.Goals as goal
 
-pub returns-then-c-gt15 : goal.returns-then-c-gt15
-unfolding channel_of
-returns-then-c-gt15 c = rw (← c.name.ensures, sym c.decimal.ensures ∙ c.in-Is.is, lt-leb _ _ c.if-c-gt15.true) refl
+wordless : are_words [] ≡ false
+unfolding are_words number_of
+wordless = refl
 
-pub returns-then-are_words : goal.returns-then-are_words
-unfolding channel_of
-returns-then-are_words c = rw (← c.name.ensures, sym c.decimal.ensures ∙ c.in-Is.is, le-leb _ _ c.if-c-gt15.false, ← c.value.ensures, sym c.are_words.ensures ∙ c.if-are_words.true) refl
+valueless : (text : List ℕ) → has_value text ≡ false → value_of text ≡ []
+valueless text e = let l = ltb-false _ _ e in drop_of_length-le text (omega arith)
 
-pub returns-else-are_words : goal.returns-else-are_words
-unfolding channel_of
-returns-else-are_words c = rw (← c.name.ensures, sym c.decimal.ensures ∙ c.in-Is.is, le-leb _ _ c.if-c-gt15.false, ← c.value.ensures, sym c.are_words.ensures ∙ c.if-are_words.false) refl
+refused : (a b : Bool) (c : ℕ) → b ≡ false → pick (and a b) (Some c) None ≡ None
+refused true b c e = rw e
+refused false b c e = refl
 
-pub returns-in-Bad : goal.returns-in-Bad
-unfolding channel_of
-returns-in-Bad c = rw (← c.name.ensures, sym c.decimal.ensures ∙ c.in-Bad.is) refl
+none-by : (o : Option ℕ) (list : List ℕ) → are_words list ≡ false → channel_by o list ≡ None
+none-by (Some c) list e = refused (leb c 15) (are_words list) c e
+none-by None list e = refl
+
+pub returns-in_err-value : goal.returns-in_err-value
+returns-in_err-value c =
+    let t = c.args.text.now in
+    c.from_residual-in_err-value.ensures ∙ sym (none-by (number_of (name_of t)) (value_of t) (rw (valueless t c.in_err-value.ensures) wordless))

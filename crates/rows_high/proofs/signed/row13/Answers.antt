@@ -9,105 +9,105 @@ use Rattle.actions.proofs.Laws.{stays_at}
 use native.Mathlib.Omega.{arith}
 use Rattle.rows_high.proofs.signed.row13.Goals as goal
 
-pub second_of-requires : goal.second_of-requires
-second_of-requires c = omega (arith, (family-bitwise c.args.op (omega (arith, c.requires.op_value)) (omega (arith, c.if-op-lt211.true))).takes, c.requires.stacked.deep, c.requires.stacked.most)
+pub nth_of-requires : goal.nth_of-requires
+nth_of-requires c = omega (arith, (family-bitwise c.args.op (omega (arith, c.requires.op_value)) (omega (arith, c.if-op-lt211.true))).takes, c.requires.stacked.deep, c.requires.stacked.most)
 
-pub top_of-requires : goal.top_of-requires
-top_of-requires c = omega (arith, (family-bitwise c.args.op (omega (arith, c.requires.op_value)) (omega (arith, c.if-op-lt211.true))).takes, c.requires.stacked.deep, c.requires.stacked.most)
+pub nth_of-requires-then-op-lt211 : goal.nth_of-requires-then-op-lt211
+nth_of-requires-then-op-lt211 c = omega (arith, (family-bitwise c.args.op (omega (arith, c.requires.op_value)) (omega (arith, c.if-op-lt211.true))).takes, c.requires.stacked.deep, c.requires.stacked.most)
 
-pub two-requires : goal.two-requires
-two-requires c = omega (arith, (family-bitwise c.args.op (omega (arith, c.requires.op_value)) (omega (arith, c.if-op-lt211.true))).takes, c.requires.stacked.deep, c.requires.stacked.most, c.requires.stacked.own)
+pub computed-requires : goal.computed-requires
+computed-requires c = omega (arith, (family-bitwise c.args.op (omega (arith, c.requires.op_value)) (omega (arith, c.if-op-lt211.true))).takes, c.requires.stacked.deep, c.requires.stacked.most, c.requires.stacked.own)
 
 pub returns-then-op-lt211 : goal.returns-then-op-lt211
-returns-then-op-lt211 c = ((λ lent o store out. by_two _ _ _ _ (family-bitwise c.args.op (omega (arith, c.requires.op_value)) (omega (arith, c.if-op-lt211.true))) c.bitwise.ensures c.second_of.ensures c.top_of.ensures (c.two.ensures.0 store out) lent o), c.two.ensures.1)
+returns-then-op-lt211 c = ((λ lent o store out. by_two _ _ _ _ (family-bitwise c.args.op (omega (arith, c.requires.op_value)) (omega (arith, c.if-op-lt211.true))) c.bitwise.ensures c.nth_of.ensures c.nth_of-then-op-lt211.ensures (c.computed.ensures.0 store out) lent o), c.computed.ensures.1)
 
-pub top_of-requires-in-211 : goal.top_of-requires-in-211
+pub nth_of-requires-in-211 : goal.nth_of-requires-in-211
 unfolding takens lefts lengths
-top_of-requires-in-211 c = omega (arith, rw c.in-211.is at c.requires.stacked)
+nth_of-requires-in-211 c = omega (arith, rw c.in-211.is at c.requires.stacked)
 
-pub replace_one-requires : goal.replace_one-requires
+pub replace-requires : goal.replace-requires
 unfolding takens lefts lengths
-replace_one-requires c = omega (arith, rw c.in-211.is at c.requires.stacked)
+replace-requires c = omega (arith, rw c.in-211.is at c.requires.stacked)
 
-pub top_of-requires-in-215 : goal.top_of-requires-in-215
+pub nth_of-requires-in-215 : goal.nth_of-requires-in-215
 unfolding takens lefts lengths
-top_of-requires-in-215 c = omega (arith, rw c.in-215.is at c.requires.stacked)
+nth_of-requires-in-215 c = omega (arith, rw c.in-215.is at c.requires.stacked)
 
-pub replace_one-requires-in-215 : goal.replace_one-requires-in-215
+pub replace-requires-in-215 : goal.replace-requires-in-215
 unfolding takens lefts lengths
-replace_one-requires-in-215 c = omega (arith, rw c.in-215.is at c.requires.stacked)
+replace-requires-in-215 c = omega (arith, rw c.in-215.is at c.requires.stacked)
 
-pub second_of-requires-in-216 : goal.second_of-requires-in-216
+pub nth_of-requires-in-216 : goal.nth_of-requires-in-216
 unfolding takens lefts lengths
-second_of-requires-in-216 c = omega (arith, rw c.in-216.is at c.requires.stacked)
+nth_of-requires-in-216 c = omega (arith, rw c.in-216.is at c.requires.stacked)
 
-pub top_of-requires-in-216 : goal.top_of-requires-in-216
+pub nth_of-requires-in-216-2 : goal.nth_of-requires-in-216-2
 unfolding takens lefts lengths
-top_of-requires-in-216 c = omega (arith, rw c.in-216.is at c.requires.stacked)
+nth_of-requires-in-216-2 c = omega (arith, rw c.in-216.is at c.requires.stacked)
 
-pub two-requires-in-216 : goal.two-requires-in-216
+pub computed-requires-in-216 : goal.computed-requires-in-216
 unfolding takens lefts lengths
-two-requires-in-216 c = omega (arith, rw c.in-216.is at c.requires.stacked)
+computed-requires-in-216 c = omega (arith, rw c.in-216.is at c.requires.stacked)
 
-pub second_of-requires-in-217 : goal.second_of-requires-in-217
+pub nth_of-requires-in-217 : goal.nth_of-requires-in-217
 unfolding takens lefts lengths
-second_of-requires-in-217 c = omega (arith, rw c.in-217.is at c.requires.stacked)
+nth_of-requires-in-217 c = omega (arith, rw c.in-217.is at c.requires.stacked)
 
-pub top_of-requires-in-217 : goal.top_of-requires-in-217
+pub nth_of-requires-in-217-2 : goal.nth_of-requires-in-217-2
 unfolding takens lefts lengths
-top_of-requires-in-217 c = omega (arith, rw c.in-217.is at c.requires.stacked)
+nth_of-requires-in-217-2 c = omega (arith, rw c.in-217.is at c.requires.stacked)
 
-pub two-requires-in-217 : goal.two-requires-in-217
+pub computed-requires-in-217 : goal.computed-requires-in-217
 unfolding takens lefts lengths
-two-requires-in-217 c = omega (arith, rw c.in-217.is at c.requires.stacked)
+computed-requires-in-217 c = omega (arith, rw c.in-217.is at c.requires.stacked)
 
-pub second_of-requires-in-218 : goal.second_of-requires-in-218
+pub nth_of-requires-in-218 : goal.nth_of-requires-in-218
 unfolding takens lefts lengths
-second_of-requires-in-218 c = omega (arith, rw c.in-218.is at c.requires.stacked)
+nth_of-requires-in-218 c = omega (arith, rw c.in-218.is at c.requires.stacked)
 
-pub top_of-requires-in-218 : goal.top_of-requires-in-218
+pub nth_of-requires-in-218-2 : goal.nth_of-requires-in-218-2
 unfolding takens lefts lengths
-top_of-requires-in-218 c = omega (arith, rw c.in-218.is at c.requires.stacked)
+nth_of-requires-in-218-2 c = omega (arith, rw c.in-218.is at c.requires.stacked)
 
-pub two-requires-in-218 : goal.two-requires-in-218
+pub computed-requires-in-218 : goal.computed-requires-in-218
 unfolding takens lefts lengths
-two-requires-in-218 c = omega (arith, rw c.in-218.is at c.requires.stacked)
+computed-requires-in-218 c = omega (arith, rw c.in-218.is at c.requires.stacked)
 
-pub second_of-requires-in-219 : goal.second_of-requires-in-219
+pub nth_of-requires-in-219 : goal.nth_of-requires-in-219
 unfolding takens lefts lengths
-second_of-requires-in-219 c = omega (arith, rw c.in-219.is at c.requires.stacked)
+nth_of-requires-in-219 c = omega (arith, rw c.in-219.is at c.requires.stacked)
 
-pub top_of-requires-in-219 : goal.top_of-requires-in-219
+pub nth_of-requires-in-219-2 : goal.nth_of-requires-in-219-2
 unfolding takens lefts lengths
-top_of-requires-in-219 c = omega (arith, rw c.in-219.is at c.requires.stacked)
+nth_of-requires-in-219-2 c = omega (arith, rw c.in-219.is at c.requires.stacked)
 
-pub two-requires-in-219 : goal.two-requires-in-219
+pub computed-requires-in-219 : goal.computed-requires-in-219
 unfolding takens lefts lengths
-two-requires-in-219 c = omega (arith, rw c.in-219.is at c.requires.stacked)
+computed-requires-in-219 c = omega (arith, rw c.in-219.is at c.requires.stacked)
 
 pub returns-in-211 : goal.returns-in-211
 unfolding instruction decode_of row13 perform_of one_of two_of
-returns-in-211 c = ((λ lent o store out. rw (c.in-211.is, c.replace_one.ensures.0, c.replace_one.ensures.1, c.top_of-in-211.ensures)), stays_at _ _ _ _ _ _ (next-own c.requires.stacked.own) c.replace_one.ensures.0)
+returns-in-211 c = ((λ lent o store out. rw (c.in-211.is, c.replace.ensures.0, c.replace.ensures.1, c.nth_of-in-211.ensures)), stays_at _ _ _ _ (next-own c.requires.stacked.own) c.replace.ensures.0)
 
 pub returns-in-215 : goal.returns-in-215
 unfolding instruction decode_of row13 perform_of one_of two_of
-returns-in-215 c = ((λ lent o store out. rw (c.in-215.is, c.replace_one-in-215.ensures.0, c.replace_one-in-215.ensures.1, c.truth.ensures, c.top_of-in-215.ensures)), stays_at _ _ _ _ _ _ (next-own c.requires.stacked.own) c.replace_one-in-215.ensures.0)
+returns-in-215 c = ((λ lent o store out. rw (c.in-215.is, c.replace-in-215.ensures.0, c.replace-in-215.ensures.1, c.truth.ensures, c.nth_of-in-215.ensures)), stays_at _ _ _ _ (next-own c.requires.stacked.own) c.replace-in-215.ensures.0)
 
 pub returns-in-216 : goal.returns-in-216
 unfolding instruction decode_of row13 perform_of one_of two_of
-returns-in-216 c = ((λ lent o store out. rw c.in-216.is (rw (c.add.ensures, c.top_of-in-216.ensures, c.second_of-in-216.ensures) at (c.two-in-216.ensures.0 store out))), c.two-in-216.ensures.1)
+returns-in-216 c = ((λ lent o store out. rw c.in-216.is (rw (c.add.ensures, c.nth_of-in-216-2.ensures, c.nth_of-in-216.ensures) at (c.computed-in-216.ensures.0 store out))), c.computed-in-216.ensures.1)
 
 pub returns-in-217 : goal.returns-in-217
 unfolding instruction decode_of row13 perform_of one_of two_of
-returns-in-217 c = ((λ lent o store out. rw c.in-217.is (rw (c.sub.ensures, c.top_of-in-217.ensures, c.second_of-in-217.ensures) at (c.two-in-217.ensures.0 store out))), c.two-in-217.ensures.1)
+returns-in-217 c = ((λ lent o store out. rw c.in-217.is (rw (c.sub.ensures, c.nth_of-in-217-2.ensures, c.nth_of-in-217.ensures) at (c.computed-in-217.ensures.0 store out))), c.computed-in-217.ensures.1)
 
 pub returns-in-218 : goal.returns-in-218
 unfolding instruction decode_of row13 perform_of one_of two_of
-returns-in-218 c = ((λ lent o store out. rw c.in-218.is (rw (c.mul.ensures, c.top_of-in-218.ensures, c.second_of-in-218.ensures) at (c.two-in-218.ensures.0 store out))), c.two-in-218.ensures.1)
+returns-in-218 c = ((λ lent o store out. rw c.in-218.is (rw (c.mul.ensures, c.nth_of-in-218-2.ensures, c.nth_of-in-218.ensures) at (c.computed-in-218.ensures.0 store out))), c.computed-in-218.ensures.1)
 
 pub returns-in-219 : goal.returns-in-219
 unfolding instruction decode_of row13 perform_of one_of two_of
-returns-in-219 c = ((λ lent o store out. rw c.in-219.is (rw (c.div.ensures, c.top_of-in-219.ensures, c.second_of-in-219.ensures) at (c.two-in-219.ensures.0 store out))), c.two-in-219.ensures.1)
+returns-in-219 c = ((λ lent o store out. rw c.in-219.is (rw (c.div.ensures, c.nth_of-in-219-2.ensures, c.nth_of-in-219.ensures) at (c.computed-in-219.ensures.0 store out))), c.computed-in-219.ensures.1)
 
 pub returns-in_default : goal.returns-in_default
 unfolding instruction decode_of row13 perform_of one_of two_of

@@ -1,4 +1,4 @@
--- What the turns left, and the rest of the budget, are one run of n steps.
+-- What the turns left, and the rest of the budget, are one run of all the steps.
 use mathlib.Core.Path.{◌≡◌}
 use Prim.Native.Nat.{◌-◌, ◌+◌, ◌≤◌}
 use Rattle.trace.proofs.Most.{at_most}
@@ -8,18 +8,18 @@ use Rattle.trace.proofs.steps.traced.Goals as goal
 
 pub more-requires : goal.more-requires
 more-requires c =
-    let h : c.turns-t.result.ran.count ≤ c.turns-t.result.done = at_most _ _ _ _ _ _ c.turns-t.ensures.0 in
-    omega (arith, c.ranges.n)
+    let h : c.turns-done.result.0.count ≤ c.turns-done.result.1 = at_most _ _ _ _ _ _ c.turns-done.ensures.0 in
+    omega arith
 
-pub returns-then-done-n : goal.returns-then-done-n
-returns-then-done-n c =
-    let d = c.turns-t.result.done in
-    let n = c.args.n in
-    let q : d + (n - d) ≡ n = omega (arith, c.turns-t.ensures.1) in
+pub returns-then-done-part : goal.returns-then-done-part
+returns-then-done-part c =
+    let d = c.turns-done.result.1 in
+    let n = c.args.part.steps in
+    let q : d + (n - d) ≡ n = omega (arith, c.turns-done.ensures.1) in
     let l : 1 ≤ n - d = omega arith in
-    all-run _ _ _ _ _ _ _ q (goes_on _ _ _ d (n - d) _ _ _ l c.turns-t.ensures.0 c.more.ensures)
+    all-run _ _ _ _ _ _ _ q (goes_on _ _ _ d (n - d) _ _ _ l c.turns-done.ensures.0 c.more.ensures)
 
 pub returns : goal.returns
 returns c =
-    let q : c.turns-t.result.done ≡ c.args.n = omega (arith, c.turns-t.ensures.1) in
-    all-run _ _ _ _ _ _ _ q c.turns-t.ensures.0
+    let q : c.turns-done.result.1 ≡ c.args.part.steps = omega (arith, c.turns-done.ensures.1) in
+    all-run _ _ _ _ _ _ _ q c.turns-done.ensures.0

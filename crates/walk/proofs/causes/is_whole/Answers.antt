@@ -1,24 +1,15 @@
 -- A position with no cause of fault is whole.
-use mathlib.Core.Path.{refl, sym, ◌∙◌}
-use Rattle.mcode.specs.Walk.{whole_at}
+use Rattle.std.proofs.Common.{◌≡◌, Bool, true, false, not, refl, sym, is_some, Option, Some, None}
+use Rattle.mcode.specs.declared.Cause.{Cause}
+use Rattle.mcode.specs.Walk.{is_nothing, whole_at}
 use Rattle.walk.proofs.causes.is_whole.Goals as goal
 
-pub returns-in-Nothing : goal.returns-in-Nothing
-unfolding whole_at
-returns-in-Nothing c = rw (sym c.cause_at-cause.ensures ∙ c.in-Nothing.is) refl
+nothing : (o : Option Cause) (b : Bool) → is_some o ≡ not b → b ≡ is_nothing o
+nothing None true e = refl
+nothing None false e = cc
+nothing (Some cause) true e = cc
+nothing (Some cause) false e = refl
 
-pub returns-in-Opcode : goal.returns-in-Opcode
+pub returns : goal.returns
 unfolding whole_at
-returns-in-Opcode c = rw (sym c.cause_at-cause.ensures ∙ c.in-Opcode.is) refl
-
-pub returns-in-Operands : goal.returns-in-Operands
-unfolding whole_at
-returns-in-Operands c = rw (sym c.cause_at-cause.ensures ∙ c.in-Operands.is) refl
-
-pub returns-in-Name : goal.returns-in-Name
-unfolding whole_at
-returns-in-Name c = rw (sym c.cause_at-cause.ensures ∙ c.in-Name.is) refl
-
-pub returns-in-Successor : goal.returns-in-Successor
-unfolding whole_at
-returns-in-Successor c = rw (sym c.cause_at-cause.ensures ∙ c.in-Successor.is) refl
+returns c = rw (sym c.cause_at.ensures) (nothing c.cause_at.result c.is_none.result c.is_none.ensures)

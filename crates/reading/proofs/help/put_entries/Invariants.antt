@@ -1,8 +1,0 @@
-use Prim.Native.Nat.{◌-◌}
-use Rattle.reading.proofs.help.put_entries.Given as goal
-
-abbrev pub invariant-loop-number : goal.invariant-loop-number
-invariant-loop-number l = Unit {0}
-
-abbrev pub decreases-loop-number : goal.decreases-loop-number
-decreases-loop-number l = l.b - l.number

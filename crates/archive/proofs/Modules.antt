@@ -56,16 +56,16 @@ module _ (image : List ℕ) (program : Program) (T : Told image program) where
       ends zero l = omega (arith, (T.laid.sound 0 T.some).within, (T.laid.spelt 0 T.some).table, (T.laid.spelt 0 T.some).code)
       ends (suc k) l = (T.laid.sound k l).within
 
-  -- the next module
-  module _ (k : ℕ) (l : k < program.count) (p : Placed) (e : content p ≡ content_of image program k) where
-    front-more : front (k + 1) ≡ front k ++ module_form (content p)
+  -- the next module, as a value
+  module _ (k : ℕ) (l : k < program.count) (c : Content) (e : c ≡ content_of image program k) where
+    front-more : front (k + 1) ≡ front k ++ module_form c
     front-more = front-next k ∙ ap (λ (x : Content). front k ++ module_form x) (sym e)
 
-    pub sum-next : (sum n : ℕ) → sum ≡ 1 + length (front k) → n ≡ length (module_form (content p)) → sum + n ≡ 1 + length (front (k + 1))
-    sum-next sum n q r = omega (arith, q, r, ap (λ (x : List ℕ). length x) front-more, length-append (front k) (module_form (content p)))
+    pub sum-next : (sum n : ℕ) → sum ≡ length (front k) → n ≡ length (module_form c) → sum + n ≡ length (front (k + 1))
+    sum-next sum n p q = omega (arith, p, q, ap (λ (x : List ℕ). length x) front-more, length-append (front k) (module_form c))
 
     module _ (at : ℕ) (s : List ℕ) (to : ℕ) (t : List ℕ) (P : Put (front k) at s to t) where
-      pub room_next : at + length (front program.count) ≤ length s → to + length (module_form (content p)) ≤ length t
+      pub room_next : at + length (front program.count) ≤ length s → to + length (module_form c) ≤ length t
       room_next r =
           omega (
             arith,
@@ -76,8 +76,13 @@ module _ (image : List ℕ) (program : Program) (T : Told image program) where
             put-length (front k) at s to t P,
           )
 
-      pub put_next : (to' : ℕ) (u : List ℕ) → Put (module_form (content p)) to t to' u → Put (front (k + 1)) at s to' u
-      put_next to' u Q = subst (λ (x : List ℕ). Put x at s to' u) (sym front-more) (put_both (front k) (module_form (content p)) at s to t to' u P Q)
+      pub put-content : (to' : ℕ) (u : List ℕ) → Put (module_form c) to t to' u → Put (front (k + 1)) at s to' u
+      put-content to' u Q = subst (λ (x : List ℕ). Put x at s to' u) (sym front-more) (put_both (front k) (module_form c) at s to t to' u P Q)
+
+  -- the next module, whose bit map is at `begin`
+  pub put_next : (k : ℕ) → k < program.count → (begin : ℕ) → begin ≡ begin_of program.modules k → (at : ℕ) (s : List ℕ) (to : ℕ) (t : List ℕ) → Put (front k) at s to t
+      → (to' : ℕ) (u : List ℕ) → Put (module_form (content_at image begin (module_of program k))) to t to' u → Put (front (k + 1)) at s to' u
+  put_next k l begin e = put-content k l (content_at image begin (module_of program k)) (ap (λ (b : ℕ). content_at image b (module_of program k)) e)
 
 -- ---- the whole form
 

@@ -1,6 +1,18 @@
 // Bytes put into an output one behind another.
 ghost use Rattle.std.specs.Prelude.{◌≡◌, ◌+◌, ◌≤◌, length};
+ghost use Rattle.mcode.specs.Step.{written};
 ghost use Rattle.archive.specs.Form.{joined, Room, Wrote};
+
+// The bytes, from `at` on. Of a loop the compiler makes a `memcpy`; `copy_from_slice` would ask for `memmove`, which the C library needs
+// nowhere else.
+fn copy(bytes: &[u8], output: &mut [u8], at: usize)
+    requires { at + length bytes.now ≤ length output.old }
+    ensures { output.new ≡ written bytes.now at output.old }
+{
+    for i in 0..bytes.len() {
+        output[at + i] = bytes[i];
+    }
+}
 
 // An output, and how many bytes were put into it.
 #[derive(Drop)]
@@ -22,7 +34,7 @@ impl<'a> Writer<'a> {
         ensures { Wrote bytes.now self.old self.new }
     {
         let end = self.at + bytes.len();
-        self.output[self.at..end].copy_from_slice(bytes);
+        copy(bytes, self.output, self.at);
         self.at = end;
     }
 

@@ -1,6 +1,7 @@
 -- What the arguments of a program ask together, one after another. Assumes nothing.
-use Rattle.std.specs.Prelude.{ℕ, List, Option, Some, None, Result, Ok, Err}
-use Rattle.mcode.specs.Word.{pick}
+use Rattle.std.specs.Prelude.{◌≡◌, ℕ, Bool, true, false, not, List, Option, Some, None, Result, Ok, Err, is_some}
+use Rattle.std.specs.Str.{bytes_eq}
+use Rattle.mcode.specs.Word.{pick, and}
 use Rattle.console.specs.declared.options.Options.{Options}
 use Rattle.console.specs.declared.options.Setting.{Setting}
 use Rattle.console.specs.declared.options.Argument.{Argument}
@@ -11,7 +12,9 @@ use Rattle.console.specs.declared.arguments.Files.TheVariants.{No, One, Several}
 use Rattle.console.specs.declared.arguments.Ended.{Ended}
 use Rattle.console.specs.declared.arguments.Ended.TheVariants.{Help, Bad}
 use Rattle.console.specs.declared.arguments.Asked.{Asked}
-use Rattle.console.specs.Choices.{default_options, kind_of, has_value, value_of, choice_of, with_choice}
+use Rattle.console.specs.declared.arguments.Part.{Part}
+use Rattle.console.specs.declared.arguments.Part.TheVariants.{Flag, Value, Other}
+use Rattle.console.specs.Choices.{default_options, kind_of, name_of, has_value, value_of, choice_of, with_choice}
 
 -- what is asked so far, or what ended it: a call for help ends it, and a bad argument does
 abbrev pub Asking : Type 0
@@ -80,3 +83,14 @@ whole_by (Some setting) a = Err Bad
 
 abbrev pub whole_of : Asked → Asking
 whole_of a = whole_by a.awaited a
+
+-- whether an argument that is no value of the program's own option names it, by its flag: it does not where another option awaits its value
+abbrev pub names_own : List ℕ → Asked → List ℕ → Bool
+names_own flag a text = and (not (is_some a.awaited)) (bytes_eq (name_of text) flag)
+
+-- what an argument is to that option, whose value it is where `is_value`: else its name, alone or with the value, or something else
+abbrev pub IsPart : List ℕ → Asked → Bool → List ℕ → Part → Type 0
+IsPart flag a is_value text Flag = (is_value ≡ false) × (names_own flag a text ≡ true) × (has_value text ≡ false)
+IsPart flag a true text (Value v) = v.now ≡ text
+IsPart flag a false text (Value v) = (names_own flag a text ≡ true) × (has_value text ≡ true) × (v.now ≡ value_of text)
+IsPart flag a is_value text Other = (is_value ≡ false) × (names_own flag a text ≡ false)

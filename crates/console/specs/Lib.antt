@@ -4,3 +4,4 @@ pub mod Faults
 pub mod Asks
 pub mod Caught
 pub mod Words
+pub mod Given

@@ -1,16 +1,17 @@
 -- The words of refusals and stops, by their numbers. Assumes nothing.
-use Rattle.std.specs.Prelude.{ℕ, ◌-◌, ltb, List, [], ◌∷◌, get_or, codes}
+use Rattle.std.specs.Prelude.{ℕ, ◌-◌, ltb, List, [], ◌∷◌, ◌++◌, get_or, codes, decimal}
 use Rattle.mcode.specs.Word.{pick}
+use Rattle.mcode.specs.Image.{most_modules}
 
 abbrev pub no_refusal : List ℕ
 no_refusal = codes "no such refusal"
 
--- of the paper's refusals, 1 to 14; an image has at most 21 modules
+-- of the paper's refusals, 1 to 14
 abbrev pub refusal_words : ℕ → List ℕ
 refusal_words n = get_or (
     no_refusal
     ∷ codes "image of 0 or over 65,535 bytes"
-    ∷ codes "module count 0 or over 21"
+    ∷ (codes "module count 0 or over " ++ decimal most_modules)
     ∷ codes "image ends inside a part"
     ∷ codes "bytes after the last module"
     ∷ codes "bit 3 to 7 of a bit map"

@@ -1,11 +1,11 @@
 // What the arguments of a program ask together. A program judges them one after another, before any file is read; the first bad one ends
 // it, with a line on standard error that names it and says what is allowed.
 ghost use Rattle.std.specs.Prelude.{◌≡◌};
-ghost use Rattle.console.specs.Asks.{nothing_asked, one_more, name_says, with_value, word_says, text_says, whole_of};
+ghost use Rattle.console.specs.Asks.{nothing_asked, one_more, name_says, with_value, word_says, text_says, whole_of, IsPart};
 ghost use Rattle.console.specs.Choices.{choice_of};
 
 use crate::given::count;
-use crate::options::{Argument, Options, Setting, kind, name, value};
+use crate::options::{Argument, Options, Setting, kind, names, value};
 use crate::print::Teller;
 use std::rt::Env;
 
@@ -68,7 +68,7 @@ impl Asked {
                 ..self
             }),
             Argument::Unknown => {
-                teller.complaint(text, "no such option (--help lists them)");
+                teller.complaint(text, b"no such option (--help lists them)");
                 Err(Ended::Bad)
             }
             Argument::File => Ok(Asked {
@@ -131,8 +131,8 @@ impl Asked {
 #[derive(Clone, Copy)]
 pub struct Own {
     pub flag: &'static [u8],
-    pub allowed: &'static str,
-    pub missing: &'static str,
+    pub allowed: &'static [u8],
+    pub missing: &'static [u8],
 }
 
 // What an argument is to it: the option itself, which has its value next, a value, or something else.
@@ -144,11 +144,13 @@ enum Part<'a> {
 }
 
 impl Own {
-    fn part<'a>(self, asked: Asked, is_value: bool, text: &'a [u8]) -> Part<'a> {
+    fn part<'a>(self, asked: Asked, is_value: bool, text: &'a [u8]) -> Part<'a>
+        ensures { IsPart self.flag.now asked is_value text.now result }
+    {
         if is_value {
             return Part::Value(text);
         }
-        if asked.awaited.is_some() || name(text) != self.flag {
+        if asked.awaited.is_some() || !names(text, self.flag) {
             return Part::Other;
         }
         match value(text) {

@@ -1,7 +1,8 @@
 // The arguments that the program was given.
-ghost use Rattle.std.specs.Prelude.{◌≤◌, length};
+ghost use Rattle.std.specs.Prelude.{◌≡◌, ◌≤◌, length};
+ghost use Rattle.console.specs.Given.{IsGiven, next_of};
 
-use crate::options::{Argument, kind, name, value};
+use crate::options::{Argument, kind, names, value};
 use std::env::FillError;
 use std::rt::Env;
 
@@ -42,11 +43,14 @@ enum Next {
 }
 
 // What an argument is behind the ones before it, and what the next one is. An option without its value has it next.
-fn judged<'a>(next: Next, own: &[u8], text: &'a [u8]) -> (Option<Given<'a>>, Next) {
+fn judged<'a>(next: Next, own: &[u8], text: &'a [u8]) -> (Option<Given<'a>>, Next)
+    ensures given { IsGiven next own.now text.now result.0 }
+    ensures then { result.1 ≡ next_of next own.now text.now }
+{
     match next {
         Next::Value => (None, Next::Any),
         Next::Own => (Some(Given::Own(text)), Next::Any),
-        Next::Any if name(text) == own => match value(text) {
+        Next::Any if names(text, own) => match value(text) {
             Some(value) => (Some(Given::Own(value)), Next::Any),
             None => (None, Next::Own),
         },

@@ -1,5 +1,6 @@
 // What the arguments ask: the budget, the store's size, the inputs and the requests of a reading.
 ghost use Rattle.std.specs.Prelude.{◌≡◌, ◌≤◌, set, MatchOption, false, true};
+ghost use Rattle.std.specs.Str.{bytes_eq};
 ghost use Rattle.console.specs.Decimals.{number_of};
 ghost use Rattle.console.specs.Choices.{default_options, flag_of, called, kind_of, name_of, has_value, value_of, up_to, input_of, choice_of, bit_weight, with_requests, with_choice, quiet_steps};
 
@@ -61,6 +62,13 @@ pub fn name(text: &[u8]) -> &[u8]
         Some(at) => &text[..at],
         None => text,
     }
+}
+
+// Whether an argument names the option that is written so.
+pub fn names(text: &[u8], flag: &[u8]) -> bool
+    ensures { result ≡ bytes_eq (name_of text.now) flag.now }
+{
+    name(text) == flag
 }
 
 // The value, where there is one.
@@ -166,28 +174,28 @@ impl Setting {
     }
 
     // What its value may be, where it is bad.
-    pub(crate) fn allowed(self) -> &'static str {
+    pub(crate) fn allowed(self) -> &'static [u8] {
         match self {
-            Setting::Steps => "--steps takes a number from 0 to 4294967295",
-            Setting::Store => "--store takes a number from 0 to 65536",
+            Setting::Steps => b"--steps takes a number from 0 to 4294967295",
+            Setting::Store => b"--store takes a number from 0 to 65536",
             Setting::Input => {
-                "--input takes CH=VALUE, a channel from 0 to 15 and a value from 0 to 65535"
+                b"--input takes CH=VALUE, a channel from 0 to 15 and a value from 0 to 65535"
             }
-            Setting::Requests => "--requests takes a number from 0 to 65535",
-            Setting::Line => "--line takes a line from 8 to 15",
-            Setting::After => "--after takes a number from 0 to 4294967295",
+            Setting::Requests => b"--requests takes a number from 0 to 65535",
+            Setting::Line => b"--line takes a line from 8 to 15",
+            Setting::After => b"--after takes a number from 0 to 4294967295",
         }
     }
 
     // The same, where it is missing.
-    pub(crate) fn missing(self) -> &'static str {
+    pub(crate) fn missing(self) -> &'static [u8] {
         match self {
-            Setting::Steps => "a number from 0 to 4294967295 must follow",
-            Setting::Store => "a number from 0 to 65536 must follow",
-            Setting::Input => "CH=VALUE must follow (channel 0 to 15, value 0 to 65535)",
-            Setting::Requests => "a number from 0 to 65535 must follow",
-            Setting::Line => "a line from 8 to 15 must follow",
-            Setting::After => "a number from 0 to 4294967295 must follow",
+            Setting::Steps => b"a number from 0 to 4294967295 must follow",
+            Setting::Store => b"a number from 0 to 65536 must follow",
+            Setting::Input => b"CH=VALUE must follow (channel 0 to 15, value 0 to 65535)",
+            Setting::Requests => b"a number from 0 to 65535 must follow",
+            Setting::Line => b"a line from 8 to 15 must follow",
+            Setting::After => b"a number from 0 to 4294967295 must follow",
         }
     }
 }

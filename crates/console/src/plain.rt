@@ -37,7 +37,7 @@ fn asks(teller: Teller, text: &[u8]) -> Result<(), Ended> {
         Argument::Help => Err(Ended::Help),
         Argument::File => Ok(()),
         _ => {
-            teller.complaint(text, "no such option (--help lists them)");
+            teller.complaint(text, b"no such option (--help lists them)");
             Err(Ended::Bad)
         }
     }

@@ -192,41 +192,51 @@ impl fmt::Display for Reason {
 #[derive(Clone, Copy)]
 pub struct Teller<'a> {
     pub streams: Streams,
-    pub program: &'a str,
+    pub program: &'a [u8],
 }
 
 impl Teller<'_> {
-    // `PROGRAM: SUBJECT: TEXT`. The subject need not be text. Where it cannot be written, nothing is left to say it on.
-    fn tell(self, subject: &[u8], text: impl fmt::Display + Drop) {
+    // `PROGRAM: `, with which a line begins. Where it cannot be written, nothing is left to say it on.
+    fn begin(self) {
         let to = self.streams.error;
-        let program = self.program;
-        let _written = print!(to; "{program}: ");
+        write_all(&to, self.program);
+        write_all(&to, b": ");
+    }
+
+    // `PROGRAM: SUBJECT: `. Neither need be text.
+    fn head(self, subject: &[u8]) {
+        let to = self.streams.error;
+        self.begin();
         write_all(&to, subject);
-        let _written = print!(to; ": {text}\n");
+        write_all(&to, b": ");
     }
 
     // `PROGRAM: FILE: refused N: WORDS (PLACE)`.
     pub fn refusal(self, file: &[u8], number: u16, place: Option<Place>) {
-        self.tell(file, Reason { number, place });
+        let to = self.streams.error;
+        let reason = Reason { number, place };
+        self.head(file);
+        let _written = print!(to; "{reason}\n");
     }
 
     // `PROGRAM: ARGUMENT: what is allowed`.
-    pub fn complaint(self, argument: &[u8], allowed: &str) {
-        self.tell(argument, allowed);
+    pub fn complaint(self, argument: &[u8], allowed: &[u8]) {
+        let to = self.streams.error;
+        self.head(argument);
+        write_all(&to, allowed);
+        write_all(&to, b"\n");
     }
 
     // That argument i is longer than the buffer in which arguments are read.
     pub fn too_long(self, i: usize) {
         let to = self.streams.error;
-        let program = self.program;
-        let _written = print!(to; "{program}: argument {i}: longer than 4096 bytes\n");
+        self.begin();
+        let _written = print!(to; "argument {i}: longer than 4096 bytes\n");
     }
 
     // `PROGRAM: FILE: the system's reason`, with the error of the call that failed.
     pub fn unreadable(self, file: &[u8], error: io::Error) {
-        let to = self.streams.error;
-        let program = self.program;
-        let _written = print!(to; "{program}: ");
+        self.begin();
         fail(self.streams, file, error);
     }
 }

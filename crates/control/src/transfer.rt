@@ -1,5 +1,5 @@
 // Transfers, by 256 b, by a line and by a trap: everything is read before anything is written.
-ghost use Rattle.std.specs.Prelude.{◌≡◌, Ok, true, List, [], ◌∷◌, ℕ, ◌+◌, ◌-◌, ◌≤◌, ◌<◌, eqb, length, get_or, set, replicate};
+ghost use Rattle.std.specs.Prelude.{◌≡◌, Ok, true, List, [], ◌∷◌, ℕ, ◌+◌, ◌-◌, ◌≤◌, ◌<◌, eqb, length, get_or, set, replicate, ok_or, unwrap_or};
 ghost use Rattle.mcode.specs.Word.{pick};
 ghost use Rattle.mcode.specs.Image.{most_modules};
 ghost use Rattle.mcode.specs.Machine.{position, stop_number};
@@ -243,12 +243,11 @@ pub fn take_line(
 
 // The module of the process that catches a stop with this number: that of word 14, where the stop is a trap and the word is not 0 and not
 // P, which is p; MOST_MODULES where none can.
-fn catcher(table: &[u16; TABLE_WORDS], map: &[u32], store: &[u16], p: u16, stop: Stop) -> usize
+fn catcher(table: &[u16; TABLE_WORDS], map: &[u32], store: &[u16], p: u16, number: u32) -> usize
     requires mapped { Mapped table.now map.now }
     requires in_bounds { 32 ≤ length store.now }
-    ensures { result ≡ catcher_in table.now map.now store.now p (stop_number stop) }
+    ensures { result ≡ catcher_in table.now map.now store.now p number }
 {
-    let number = stop.number();
     if number < 32 {
         return MOST_MODULES;
     }
@@ -280,35 +279,35 @@ fn resume_noted(
     next
 }
 
-// A stop with this number and code. A trap goes to the process in word 14 as a line goes to its own: with the mask changed, the whole stack
-// saved and the position as it is; the old process goes to word 15. The number goes to word P + 6 when the other process is read, and before
-// this one is saved. Where none catches it, it is the stop.
+// A stop with this number, whatever its code. A trap goes to the process in word 14 as a line goes to its own: with the mask changed, the
+// whole stack saved and the position as it is; the old process goes to word 15. The number goes to word P + 6 when the other process is read,
+// and before this one is saved. None where no process catches it: then it is the stop.
 pub fn catch_trap(
     r: Core,
     table: &[u16; TABLE_WORDS],
     map: &[u32],
     stack: &mut [u16; 16],
     store: &mut [u16],
-    stop: Stop,
-) -> Stepped
+    number: u32,
+) -> Option<Core>
     requires mapped { Mapped table.now map.now }
     requires framed { Framed table.now (length store.old) r }
     requires anchored { Anchored table.now r }
-    requires pc_bound { (32 ≤ length store.old) × (r.pc - r.start < 65536) }
-    ensures { ((lent : Lent) (bytes words : List ℕ) → Lends bytes table.now map.now words lent → (out : List ℕ) → result_of r result stack.new store.new out ≡ left_by (held r stack.old store.old out) (trap_of lent stop (held r stack.old store.old out))) × Anchored table.now (after r result) }
+    requires number_bound { (number < 65536) × (32 ≤ length store.old) × (r.pc - r.start < 65536) }
+    ensures { ((lent : Lent) (bytes words : List ℕ) → Lends bytes table.now map.now words lent → (j : Stop) → stop_number j ≡ number → (out : List ℕ) → result_of r (ok_or result j) stack.new store.new out ≡ left_by (held r stack.old store.old out) (trap_of lent j (held r stack.old store.old out))) × Anchored table.now (unwrap_or result r) }
 {
-    let k = catcher(table, map, store, r.p.0, stop);
+    let k = catcher(table, map, store, r.p.0, number);
     if k == MOST_MODULES {
-        return Err(stop);
+        return None;
     }
     let q = store[14];
     let s = store[q as usize + 4] as usize;
     let n = store[s - 1] as usize;
     let words = words_at(store, s - 1 - n, n);
-    let next = resume_noted(r, table, store, k, q, stop.number());
+    let next = resume_noted(r, table, store, k, q, number as u16);
     let d = r.depth;
     let to = r.pc;
     save_process(r, stack, store, d, 15, to);
     *stack = words;
-    Ok(next)
+    Some(next)
 }

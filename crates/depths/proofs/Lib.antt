@@ -3,6 +3,7 @@ pub mod Parts
 pub mod Theory
 pub mod Marks
 pub mod Flows
+pub mod Same
 pub mod Told
 pub mod Bools
 pub mod Whole

@@ -120,10 +120,12 @@ fn drain(rules: &Rules, map: &mut [u32], work: &mut [u16], until: usize) -> bool
     requires { Started (depths_of rules.now) (Some until) map.old work.old × AllMarks map.old }
     ensures { Found (depths_of rules.now) result map.new }
 {
+    // A copy of its own, which no write to the map can change: it is not read again at each turn.
+    let own = *rules;
     let mut h: usize = 0;
     let mut turn = head(map, work, h, until);
     while h < turn.tail {
-        let Some(next) = expand(rules, map, work, h, turn) else {
+        let Some(next) = expand(&own, map, work, h, turn) else {
             return false;
         };
         turn = next;

@@ -138,11 +138,11 @@ pub fn is_jump(op: u8) -> bool
     matches!(op, 0o30..=0o37)
 }
 
-// 027, 042, 062, 043 and 063 name a module.
+// 027, 042, 062, 043 and 063 name a module. (The first test passes most opcodes by: the scan for faults asks this of each.)
 pub fn names_module(op: u8) -> bool
     ensures { result ≡ names_module op }
 {
-    matches!(op, 0o27 | 0o42 | 0o62 | 0o43 | 0o63)
+    op <= 0o63 && matches!(op, 0o27 | 0o42 | 0o62 | 0o43 | 0o63)
 }
 
 // The procedure that a call inside the module names.

@@ -30,7 +30,7 @@ fn main(rt: HostRuntime) {
     };
     let teller = Teller {
         streams,
-        program: "desk",
+        program: b"desk",
     };
     let mut input = streams.input;
     let mut buffer = [0u8; 65536];

@@ -18,7 +18,8 @@ use Rattle.engine.specs.declared.run.Ran.{Ran}
 use Rattle.engine.specs.Ran.{answered}
 use Rattle.engine.specs.Closed.{started_of, Closes}
 use Rattle.loader.specs.Begin.{begun}
-use Rattle.loader.proofs.Begin.{start-leaves}
+use Rattle.loader.specs.Load.{LoadsPlace}
+use Rattle.loader.proofs.Begin.{start-leaves, start-low}
 use Rattle.loader.proofs.Early.{numbered}
 
 -- the number of a refusal's verdict
@@ -80,3 +81,8 @@ module _ (image before store outputs : List ℕ) (p q : Request) (after : List �
             owed = λ o. demand3 image before after L store outputs (sym n) o (p ∷ q ∷ []);
           };
         }
+
+-- start's refusals have no place
+pub start-placed : (image store before after : List ℕ) (k : Refusal) (left : List ℕ) → begun (Err k) left ≡ start_of image store → LoadsPlace image before after k
+start-placed image store before after k left e t =
+    absurd (let f : ⊥ = omega (arith, t, ap (λ (x : Run.Started). x.number) e, start-low image store) in f)

@@ -3,6 +3,7 @@ pub mod Numbers
 pub mod Closed
 pub mod Composed
 pub mod Turns
+pub mod Stops
 pub mod Lines
 pub mod Stretches
 pub mod Looping

@@ -1,4 +1,6 @@
 // Load, start and two runs, with what demand 3 says of them: the chain from the code to the theorem over the whole list of runs.
+ghost use Rattle.std.specs.Prelude.{IfErr};
+ghost use Rattle.loader.specs.Load.{LoadsPlace};
 ghost use Rattle.engine.specs.Closed.{Closes};
 
 use crate::run::{Ran, run};
@@ -19,7 +21,8 @@ pub fn two_runs(
     m: u32,
     later: u16,
 ) -> Result<(Ran, Ran), Refusal>
-    ensures { Closes image.now map.old store.old outputs.old (record { budget = n; inputs = inputs.now; requests = requests }) (record { budget = m; inputs = others.now; requests = later }) result map.new store.new outputs.new }
+    ensures answer { Closes image.now map.old store.old outputs.old (record { budget = n; inputs = inputs.now; requests = requests }) (record { budget = m; inputs = others.now; requests = later }) result map.new store.new outputs.new }
+    ensures place { IfErr result (LoadsPlace image.now map.old map.new) }
 {
     load(image, map)?;
     let machine = start(image, store)?;

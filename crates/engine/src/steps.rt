@@ -123,9 +123,10 @@ impl Stepping<'_> {
         'traps: loop {
             let stop = self.attempts();
             let r = self.core;
-            match catch_trap(r, self.table, self.map, &mut self.stack, self.store, stop) {
-                Ok(next) => self.core = next,
-                Err(stop) => break 'traps stop,
+            let number = stop.number() as u32;
+            match catch_trap(r, self.table, self.map, &mut self.stack, self.store, number) {
+                Some(next) => self.core = next,
+                None => break 'traps stop,
             }
             self.left -= 1;
         }

@@ -4,18 +4,40 @@ use mathlib.Core.Path.{◌≡◌, refl, sym, ap, ◌∙◌}
 use mathlib.Core.Logic.{◌⊎◌, inl, inr}
 use mathlib.Core.Bool.{Bool, true, false}
 use mathlib.Core.List.{List}
-use Prim.Native.Nat.{ℕ}
+use Prim.Native.Nat.{ℕ, ◌≤◌}
 use lib.Dec.{eqb}
+use native.Mathlib.Omega.{arith}
 use borrow.Author.Tests.{eqb-true, eqb-false}
 use Rattle.mcode.specs.Word.{pick}
-use Rattle.std.specs.Prelude.{Some, None}
-use Rattle.mcode.specs.Machine.{State, state, Outcome, go, halt, handled}
+use Rattle.std.specs.Prelude.{Option, Some, None, ok_or, unwrap_or}
+use Rattle.mcode.specs.Machine.{State, state, Outcome, go, halt, handled, stop_number}
 use Rattle.mcode.specs.declared.Machine.{Machine}
 use Rattle.mcode.specs.declared.Stop.{Stop}
-use Rattle.mcode.specs.declared.Stop.TheVariants.{Spent}
+use Rattle.mcode.specs.declared.Stop.TheVariants.{Spent, Ended, BadAddress, StackLimit, ReturnMark, BadProcess, ZeroDivisor, ResultRange, CheckFailed, BadChannel, Program as OfProgram}
 use Rattle.mcode.specs.Step.{Lent, instruction_of, trapped}
-use Rattle.actions.specs.Core.{Left, left_by}
+use Rattle.actions.specs.declared.Core.{Core}
+use Rattle.actions.specs.Core.{Left, after, left_by}
 use Rattle.execute.specs.Stepping.{turned}
+
+-- the numbers of the stops
+stop-range : (k : Stop) → (30 ≤ stop_number k) × (stop_number k ≤ 40)
+stop-range Spent = (omega arith, omega arith)
+stop-range Ended = (omega arith, omega arith)
+stop-range BadAddress = (omega arith, omega arith)
+stop-range StackLimit = (omega arith, omega arith)
+stop-range ReturnMark = (omega arith, omega arith)
+stop-range BadProcess = (omega arith, omega arith)
+stop-range ZeroDivisor = (omega arith, omega arith)
+stop-range ResultRange = (omega arith, omega arith)
+stop-range CheckFailed = (omega arith, omega arith)
+stop-range BadChannel = (omega arith, omega arith)
+stop-range (OfProgram n) = (omega arith, omega arith)
+
+pub stop-most : (k : Stop) → stop_number k ≤ 40
+stop-most k = (stop-range k).1
+
+pub a-stop : (k : Stop) → stop_number k ≡ 0 → ⊥
+a-stop k z = let l = (stop-range k).0 in omega (arith, l, z)
 
 pub went_on : (x : State) (o : Outcome) (l : Left) → l ≡ left_by x o → l.stop ≡ None → o ≡ go l.state
 went_on x (go y) l e z = ap go (sym (ap (λ (a : Left). a.state) e))
@@ -63,6 +85,11 @@ module _ (lent : Lent) (x : State) where
       let q : k ≡ j = cc in
       let s : l.state ≡ x = ap (λ (a : Left). a.state) e in
       f ∙ rw (q, s) refl
+
+-- where none catches it, the registers are those before it
+pub after-ok_or : (r : Core) (o : Option Core) (k : Stop) → after r (ok_or o k) ≡ unwrap_or o r
+after-ok_or r (Some q) k = refl
+after-ok_or r None k = refl
 
 -- what a stop leaves is the machine as it was
 pub stop-keeps : (x : State) (o : Outcome) (k : Stop) (m : Machine) (store out : List ℕ) → ◌≡◌ {A = Left} (record { stop = Some k; state = state m store out }) (left_by x o)

@@ -82,7 +82,7 @@ fn settle(
 {
     match s {
         Ok(next) => Ok(next),
-        Err(stop) => catch_trap(r, table, map, stack, store, stop),
+        Err(stop) => catch_trap(r, table, map, stack, store, stop.number() as u32).ok_or(stop),
     }
 }
 

@@ -71,7 +71,8 @@ fn note_all(
     }
 }
 
-// The same, of a code whose marks and depths are still to be found.
+// The same, of a code whose marks and depths are still to be found. Its arrays are on the stack only while it runs.
+#[inline(never)]
 fn note_module(rules: &Rules, map: &mut [u32], notes: &mut [Option<Note>])
     requires { (length map.old ≡ rules.now.code.m.length) × (length notes.old ≡ rules.now.code.m.length) }
     ensures { AllShown rules.now.code.image.now rules.now.program.now rules.now.code.m map.new notes.new }

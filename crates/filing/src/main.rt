@@ -31,10 +31,10 @@ impl Command {
         }
     }
 
-    fn name(self) -> &'static str {
+    fn name(self) -> &'static [u8] {
         match self {
-            Command::Archive => "archive",
-            Command::Same => "same",
+            Command::Archive => b"archive",
+            Command::Same => b"same",
         }
     }
 

@@ -1,4 +1,6 @@
 // A whole reading: load, then start, then one run without requests.
+ghost use Rattle.std.specs.Prelude.{IfErr};
+ghost use Rattle.loader.specs.Load.{LoadsPlace};
 ghost use Rattle.engine.specs.Ran.{answered};
 ghost use Rattle.in_place.specs.Whole.{Reads};
 
@@ -16,7 +18,8 @@ pub fn reading(
     inputs: &[u16],
     n: u32,
 ) -> Ran
-    ensures { Reads image.now map.old store.old outputs.old inputs.now n (answered result store.new outputs.new) map.new }
+    ensures answer { Reads image.now map.old store.old outputs.old inputs.now n (answered result store.new outputs.new) map.new }
+    ensures place { IfErr result.ending (LoadsPlace image.now map.old map.new) }
 {
     if let Err(refusal) = load(image, map) {
         return refused_with(refusal, 0);

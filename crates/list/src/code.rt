@@ -1,7 +1,9 @@
 // A module's code, one line an instruction.
-ghost use Rattle.std.specs.Prelude.{◌≡◌, ◌<◌, length};
+ghost use Rattle.std.specs.Prelude.{true, ◌≡◌, ◌+◌, ◌-◌, ◌/◌, ◌%◌, ◌<◌, [], ◌∷◌, ◌++◌, length, replicate};
+ghost use Rattle.std.specs.Fmt.{decimal, digit_glyph};
 
 use explain::shown::{NO_DEPTH, Note};
+use itoa::write_digits;
 use listing::bytes::byte_from;
 use listing::causes::words_of;
 use listing::cell::cell_of;
@@ -26,23 +28,61 @@ pub struct Code<'a> {
     ghost whole: { (length marks.now ≡ m.length) × (length notes.now ≡ m.length) },
 }
 
-fn put_place(page: &mut Page, p: usize) {
-    page.print(format_args!("{p:>6}"));
+// What stands in every line is written with no format string, which would take most of the time.
+
+// A number at the right end of a column of six.
+fn column_of(n: u16) -> [u8; 6]
+    ensures { result ≡ replicate (6 - length (decimal n)) 32 ++ decimal n }
+{
+    let mut column = [b' '; 6];
+    write_digits(n as u64, &mut column, 6);
+    column
+}
+
+fn hex_digit(n: u8) -> u8
+    requires { n < 16 }
+    ensures { result ≡ digit_glyph true n }
+{
+    if n < 10 { b'0' + n } else { b'A' - 10 + n }
+}
+
+// A byte as two hexadecimal digits, and a blank.
+fn hex(byte: u8) -> [u8; 3]
+    ensures { result ≡ digit_glyph true (byte / 16) ∷ digit_glyph true (byte % 16) ∷ 32 ∷ [] }
+{
+    [hex_digit(byte / 16), hex_digit(byte % 16), b' ']
+}
+
+// A byte as three octal digits.
+fn octal(byte: u8) -> [u8; 3]
+    ensures { result ≡ (48 + byte / 64) ∷ (48 + byte / 8 % 8) ∷ (48 + byte % 8) ∷ [] }
+{
+    [b'0' + byte / 64, b'0' + byte / 8 % 8, b'0' + byte % 8]
+}
+
+fn put_place(page: &mut Page, p: u16) {
+    page.text(&column_of(p));
 }
 
 // A mark at the right end of its column; one of more than 5 letters pushes the rest of the line to the right. - where no depth was found.
 fn put_depth(page: &mut Page, mark: u32) {
     if mark == NO_DEPTH {
-        page.print("      -  ");
+        page.text(b"      -  ");
     } else {
-        page.print(format_args!("  {:>5}  ", cell_of(mark)));
+        let cell = cell_of(mark);
+        page.text(&b"       "[cell.len().min(5)..]);
+        page.text(cell.as_str().as_bytes());
+        page.text(b"  ");
     }
 }
 
 // What is wrong with an instruction, at the end of its line.
 fn put_note(page: &mut Page, note: Option<Note>) {
     match note {
-        Some(Note::Fault(cause)) => page.print(format_args!("  <- {}", words_of(cause))),
+        Some(Note::Fault(cause)) => {
+            page.text(b"  <- ");
+            page.text(words_of(cause).as_bytes());
+        }
         Some(Note::Meet) => page.print("  <- two depths meet"),
         Some(Note::Rule) => page.print("  <- the depth does not fit"),
         None => {}
@@ -62,7 +102,7 @@ impl Code<'_> {
     // The bytes of the code from a to e.
     fn put_bytes(self, page: &mut Page, a: usize, e: usize) {
         for p in a..e {
-            page.print(format_args!("{:02X} ", byte_from(self.image, self.m.code, p)));
+            page.text(&hex(byte_from(self.image, self.m.code, p)));
         }
     }
 
@@ -84,7 +124,7 @@ impl Code<'_> {
             return;
         }
         self.put_bytes_column(page, p, 1);
-        page.print(format_args!("{:03o}", i.op));
+        page.text(&octal(i.op));
         if let Some(name) = name_of(i.op) {
             page.print(format_args!(" {name}"));
         }
@@ -95,7 +135,7 @@ impl Code<'_> {
     fn put_marked(self, page: &mut Page, p: u16, mark: u32, note: Option<Note>) -> usize {
         self.put_labels(page, p);
         let i = instruction_at(self.image, self.m, p);
-        put_place(page, p as usize);
+        put_place(page, p);
         put_depth(page, mark);
         self.put_instruction(page, p, i);
         put_note(page, note);
@@ -105,11 +145,12 @@ impl Code<'_> {
 
     // Bytes that no marked instruction covers, from `at` on, of which a line shows at most 8. Answers where they end.
     fn put_unreached(self, page: &mut Page, at: usize) -> usize
-        requires { at < 65536 }
+        requires { at < length self.marks.now }
+        ensures { at < result }
     {
         let next = marked_from(self.marks, at + 1).unwrap_or(self.marks.len());
         let e = next.min(at + 8);
-        put_place(page, at);
+        put_place(page, at as u16);
         put_depth(page, NO_DEPTH);
         self.put_bytes(page, at, e);
         page.print(" unreached\n");

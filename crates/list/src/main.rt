@@ -37,6 +37,8 @@ fn list_file(rt: &(impl Env + Files), teller: Teller, page: &mut Page, i: usize)
     let mut buffer = [0u8; 4096];
     let name = argument(rt, i, &mut buffer);
     let mut bytes = [0u8; 65536];
+    let mut map = [0u32; 65535];
+    let mut notes = [None; 65535];
     let Some(image) = contents(rt, teller, name, &mut bytes) else {
         return;
     };
@@ -47,8 +49,6 @@ fn list_file(rt: &(impl Env + Files), teller: Teller, page: &mut Page, i: usize)
     if 1 < i {
         page.print("\n");
     }
-    let mut map = [0u32; 65535];
-    let mut notes = [None; 65535];
     show::put_image(teller, page, name, image, &mut map, &mut notes);
 }
 
@@ -60,7 +60,7 @@ fn main(rt: HostRuntime) {
     };
     let teller = Teller {
         streams,
-        program: "list",
+        program: b"list",
     };
     let count = count(&rt);
     if is_asked(&rt, teller, count) {

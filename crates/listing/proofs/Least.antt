@@ -63,3 +63,11 @@ pub found : (f : ℕ → Bool) (from end : ℕ) (r : Option ℕ)
     → Found f from end r
 found f from end None none = record { first = none-passes f from end _ (least f (end - from) from) none; within = tt }
 found f from end (Some i) (a, b, t, before) = record { first = first-passes f from end _ (least f (end - from) from) i a b t before; within = (a, b) }
+
+-- none below i passes, nor does i
+pub one-more : (f : ℕ → Bool) (from i : ℕ) → ((k : ℕ) → from ≤ k → k < i → f k ≡ false) → f i ≡ false → (k : ℕ) → from ≤ k → k < i + 1 → f k ≡ false
+one-more f from i none e k a b = split (dec_lt k i)
+  where
+    split : Dec (k < i) → f k ≡ false
+    split (yes l) = none k a l
+    split (no l) = let q : i ≡ k = omega arith in subst (λ (j : ℕ). f j ≡ false) q e

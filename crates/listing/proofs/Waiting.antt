@@ -4,7 +4,7 @@ use Rattle.std.proofs.lemmas.List.{take_more, length-take-le}
 use Rattle.std.specs.List.{concat, FoldsTo}
 use Rattle.std.specs.declared.fmt.Error.{Error}
 use Rattle.std.specs.Fmt.{WritesText}
-use Rattle.listing.specs.Waiting.{block, byte_more, text_more, Leaves}
+use Rattle.listing.specs.Waiting.{block, byte_more, text_more, Leaves, Takes}
 
 -- two texts, one behind the other
 pub text_more-append : (xs ys waits : List ℕ) → text_more (xs ++ ys) waits ≡ text_more ys (text_more xs waits)
@@ -60,15 +60,15 @@ module _ (letters : List ℕ) (i : ℕ) (o p q : Option (List ℕ)) (l : i < len
           rw (take_more letters i 0 l) (r (omega arith) ∙ ap Some (append_assoc w (take i letters) (get_or letters i 0 ∷ [])))
 
 -- the parts of a text that is written in several calls
-parts_more : (parts : List (List ℕ)) (a b : Option (List ℕ)) → FoldsTo (λ x letters y. Leaves (text_more letters) x y) a parts b → Leaves (text_more (concat parts)) a b
+parts_more : (parts : List (List ℕ)) (a b : Option (List ℕ)) → FoldsTo Takes a parts b → Leaves (text_more (concat parts)) a b
 parts_more [] a b f = rw (sym f) (Leaves-none a)
-parts_more (x ∷ xs) a b (m, f, g) = Leaves-append x (concat xs) a m b f (parts_more xs m b g)
+parts_more (x ∷ xs) a b (m, f, g) = Leaves-append x (concat xs) a m b f.leaves (parts_more xs m b g)
 
-pub Leaves-written : (o : Option (List ℕ)) (a b : Option (List ℕ)) → WritesText (λ x letters y. Leaves (text_more letters) x y) a o b → IfSome o (λ letters. Leaves (text_more letters) a b)
+pub Leaves-written : (o : Option (List ℕ)) (a b : Option (List ℕ)) → WritesText Takes a o b → IfSome o (λ letters. Leaves (text_more letters) a b)
 Leaves-written None a b w = tt
 Leaves-written (Some t) a b w = rw (sym w.whole) (parts_more w.parts a b w.calls)
 
-pub Leaves-printed : (r : Result (Unit {0}) Error) (o : Option (List ℕ)) (a b d : Option (List ℕ)) → OnOk r (WritesText (λ x letters y. Leaves (text_more letters) x y) a o b) → OnOk r (d ≡ b) → OnErr r (d ≡ None) → IfSome o (λ letters. Leaves (text_more letters) a d)
+pub Leaves-printed : (r : Result (Unit {0}) Error) (o : Option (List ℕ)) (a b d : Option (List ℕ)) → OnOk r (WritesText Takes a o b) → OnOk r (d ≡ b) → OnErr r (d ≡ None) → IfSome o (λ letters. Leaves (text_more letters) a d)
 Leaves-printed (Ok u) o a b d w k n = rw k (Leaves-written o a b w)
 Leaves-printed (Err e) None a b d w k n = tt
 Leaves-printed (Err e) (Some t) a b d w k n = rw n tt

@@ -1,5 +1,5 @@
 -- What waits to be written in one block. Assumes nothing.
-use Rattle.std.specs.Prelude.{ℕ, ◌≡◌, List, [], ◌∷◌, ◌++◌, ltb, length, Option, Some, None}
+use Rattle.std.specs.Prelude.{ℕ, ◌+◌, ◌≤◌, ◌≡◌, List, [], ◌∷◌, ◌++◌, ltb, length, Option, Some, None, IfSome}
 use Rattle.mcode.specs.Word.{pick}
 
 -- the bytes of a block
@@ -21,3 +21,8 @@ abbrev pub Leaves : (List ℕ → List ℕ) → Option (List ℕ) → Option (Li
 Leaves more before None = Unit {0}
 Leaves more None (Some after) = ⊥
 Leaves more (Some before) (Some after) = after ≡ more before
+
+-- A text more. Where there is room for it, all of it waits, behind what waited.
+pub record Takes (before : Option (List ℕ)) (letters : List ℕ) (after : Option (List ℕ)) : Type 0 where
+  pub leaves : Leaves (text_more letters) before after
+  pub room : IfSome before (λ w. length w + length letters ≤ block → after ≡ Some (w ++ letters))

@@ -2,12 +2,12 @@
 ghost use Rattle.std.specs.Prelude.{◌≡◌, ◌+◌, get_or};
 ghost use Rattle.mcode.specs.Word.{byte, word_of};
 
-// The byte `offset` places after `start`. Neither is limited: a sum that is no usize lies outside.
+// The byte `offset` places after `start`. Neither is limited: no sum is made of them.
 pub fn byte_from(s: &[u8], start: usize, offset: usize) -> u8
     ensures { result ≡ byte s.now (start + offset) }
 {
-    let at = start.checked_add(offset);
-    at.and_then(|at| s.get(at)).copied().unwrap_or(0)
+    let rest = s.get(start..).unwrap_or_default();
+    rest.get(offset).copied().unwrap_or(0)
 }
 
 pub fn word_at(s: &[u16], i: usize) -> u16

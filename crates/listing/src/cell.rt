@@ -9,7 +9,7 @@ use marks::{depth_of, list_of, promised_of, saves_of};
 // No entry has more than 25 letters, of whatever bits it is.
 pub type Cell = ArrayString<25>;
 
-fn digit(n: u32) -> char
+pub(crate) fn digit(n: u32) -> char
     requires { n < 10 }
     ensures { result ≡ 48 + n }
 {

@@ -1,16 +1,22 @@
 // An instruction of a module's code, with its operands.
-ghost use Rattle.std.specs.Prelude.{◌≡◌, ◌≤◌, IfOk};
+ghost use Rattle.std.specs.Prelude.{◌≡◌, [], ◌∷◌, ◌++◌, ◌+◌, ◌≤◌, length};
+ghost use Rattle.std.specs.Fmt.{decimal};
+ghost use Rattle.arrayvec.specs.ArrayString.{array_string_len};
 ghost use Rattle.mcode.specs.Depths.{target};
 ghost use Rattle.listing.specs.Shape.{operand_of, fitting, target_of, instruction_at};
+ghost use Rattle.listing.specs.Text.{operands_text};
 
 use crate::bytes::{byte_from, word_of};
+use crate::cell::digit;
 use crate::names::name_of;
 use arrayvec::ArrayString;
 use depths::rules::{is_jump, names_module};
 use mcode::Module;
 use mcode::opcode::length_of;
 use std::fmt;
-use std::fmt::Write;
+
+// No instruction has more than 47 letters.
+pub type Text = ArrayString<47>;
 
 // The opcode, its length (none where it is not listed, or its operands do not lie in the code), the four bytes after it, and the position
 // that a jump goes to.
@@ -109,35 +115,59 @@ pub fn instruction_at(image: &[u8], m: Module, p: u16) -> Instruction
     }
 }
 
+// A number in decimal.
+fn push_number(text: &mut Text, n: u16)
+    requires { array_string_len text.old + length (decimal n) ≤ 47 }
+    ensures { text.new.bytes ≡ text.old.bytes ++ decimal n }
+{
+    if 10 <= n {
+        push_number(text, n / 10);
+    }
+    text.push(digit(n as u32 % 10));
+}
+
+// An operand, behind a blank.
+fn push_operand(text: &mut Text, n: u16)
+    requires { array_string_len text.old + 6 ≤ 47 }
+    ensures text { text.new.bytes ≡ text.old.bytes ++ operands_text (n ∷ []) }
+    ensures letters { array_string_len text.new ≤ array_string_len text.old + 6 }
+{
+    text.push(' ');
+    push_number(text, n);
+}
+
+fn push_pair(text: &mut Text, first: u16, second: u16)
+    requires { array_string_len text.old + 12 ≤ 47 }
+    ensures { text.new.bytes ≡ text.old.bytes ++ operands_text (first ∷ second ∷ []) }
+{
+    push_operand(text, first);
+    push_operand(text, second);
+}
+
 impl Instruction {
     ghost use Rattle.listing.specs.Text.{Shows};
 
     // The name and the operands, as LIB 200, or LID 1 65535, the high word first; a jump shows the position that it goes to.
-    pub fn text(&self) -> Result<ArrayString<47>, fmt::Error>
-        ensures { IfOk result (λ text. Shows self.now text.bytes) }
+    pub fn text(&self) -> Text
+        ensures { Shows self.now result.bytes }
     {
-        let mut text = ArrayString::new();
+        let mut text = Text::new();
         let [first, second, third, fourth] = self.operands;
-        write!(text, "{}", name_of(self.op).unwrap_or(""))?;
+        text.push_str(name_of(self.op).unwrap_or(""));
         match operand_of(self.op) {
             Operand::Nothing => {}
-            Operand::Byte | Operand::Call => write!(text, " {first}")?,
-            Operand::Word => write!(text, " {}", word_of(first, second))?,
-            Operand::Double => {
-                let high = word_of(first, second);
-                let low = word_of(third, fourth);
-                write!(text, " {high} {low}")?;
-            }
-            Operand::Jump => write!(text, " {}", self.target.unwrap_or(0))?,
-            Operand::Global | Operand::FarCall => write!(text, " {first} {second}")?,
+            Operand::Byte | Operand::Call => push_operand(&mut text, first as u16),
+            Operand::Word => push_operand(&mut text, word_of(first, second)),
+            Operand::Double => push_pair(&mut text, word_of(first, second), word_of(third, fourth)),
+            Operand::Jump => push_operand(&mut text, self.target.unwrap_or(0)),
+            Operand::Global | Operand::FarCall => push_pair(&mut text, first as u16, second as u16),
         }
-        Ok(text)
+        text
     }
 }
 
 impl fmt::Display for Instruction {
     fn fmt<W: fmt::Write>(&self, f: &mut fmt::Formatter<W>) -> fmt::Result {
-        let text = self.text()?;
-        f.pad(text.as_str())
+        f.pad(self.text().as_str())
     }
 }

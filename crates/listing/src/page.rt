@@ -1,7 +1,7 @@
 // Text for standard output, gathered and written in blocks of 65,536 bytes. Where a block cannot be written, a line on standard error says
 // why, once, and what follows is dropped.
-ghost use Rattle.std.specs.Prelude.{true, false, ◌≡◌, ◌+◌, ◌≤◌, ◌<◌, List, [], ◌∷◌, ◌++◌, length, Some, None, IfSome, Option, OnOk, OnErr};
-ghost use Rattle.listing.specs.Waiting.{block, byte_more, text_more, Leaves};
+ghost use Rattle.std.specs.Prelude.{true, false, ◌≡◌, ◌+◌, ◌≤◌, ◌<◌, List, [], ◌∷◌, ◌++◌, length, Some, None, IfSome, IsSome, IsOk, ◌↔◌, Option, OnOk, OnErr};
+ghost use Rattle.listing.specs.Waiting.{block, byte_more, text_more, Leaves, Takes};
 
 use crate::streams::{Streams, fail};
 use arrayvec::ArrayVec;
@@ -98,9 +98,13 @@ impl Page {
 }
 
 impl fmt::Write for Page {
-    ghost write_str_gives = { λ before letters after. Leaves (text_more letters) before after };
+    ghost write_str_gives = { Takes };
 
-    fn write_str(&mut self, letters: &str) -> fmt::Result {
+    // Fails only where nothing is written any more.
+    fn write_str(&mut self, letters: &str) -> fmt::Result
+        ensures takes { Takes self.old letters.now self.new }
+        ensures variant { IsOk result ↔ IsSome self.new }
+    {
         self.text(letters.as_bytes());
         match self.waiting {
             Some(_) => Ok(()),

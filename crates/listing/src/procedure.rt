@@ -41,5 +41,10 @@ pub fn entered(image: &[u8], m: Module, p: u16, from: usize) -> Option<usize>
     ensures first { Found (enters image.now m p) from (proc_count m) result }
     ensures small { IfSome result (λ i. i < 65536) }
 {
-    (from..proc_count(m)).find(|i| procedure_of(image, m, *i as u16).entry == p)
+    for i in from..proc_count(m) {
+        if procedure_of(image, m, i as u16).entry == p {
+            return Some(i);
+        }
+    }
+    None
 }

@@ -3,8 +3,10 @@ use Rattle.std.specs.Prelude.{ℕ, ◌≡◌, ◌⊎◌, Bool, true, false, List
 use Rattle.mcode.specs.Word.{pick}
 use Rattle.mcode.specs.Depths.{KeptPast, Accepted, Blanked, NoDepths}
 use Rattle.mcode.specs.Walk.{AllWhole, Broken}
-use Rattle.mcode.specs.Run.{Verdict, verdict, Judged}
+use Rattle.mcode.specs.Run.{Verdict, verdict, Judged, Loads}
+use Rattle.mcode.specs.Answer.{refusal_number, refusal_verdict}
 use Rattle.mcode.specs.declared.Program.{Program}
+use Rattle.mcode.specs.declared.Refusal.{Refusal}
 
 abbrev pub Checked : List ℕ → Program → List ℕ → Bool → List ℕ → Type 0
 Checked image program before true after = Accepted image program before after
@@ -21,3 +23,7 @@ Refused image program before v after = Walked image program v × Blanked image b
 abbrev pub LoadsProgram : List ℕ → Program → List ℕ → Verdict → List ℕ → Type 0
 LoadsProgram image program before v after =
     pick (ltb (length before) (length image)) ((v ≡ verdict 7) × (after ≡ before)) (Judged image program before v after)
+
+-- a later call's refusal: with 13 it has the module and the position that load names
+abbrev pub LoadsPlace : List ℕ → List ℕ → List ℕ → Refusal → Type 0
+LoadsPlace image before after k = refusal_number k ≡ 13 → Loads image before (refusal_verdict k) after

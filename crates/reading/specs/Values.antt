@@ -1,5 +1,5 @@
 -- What --vary takes: CH=V1,V2,.., a channel and values with commas between them. Assumes nothing.
-use Rattle.std.specs.Prelude.{ℕ, Bool, List, Option, Some, None, eqb, leb, is_some}
+use Rattle.std.specs.Prelude.{ℕ, Bool, List, [], ◌∷◌, Option, Some, None, eqb, leb, is_some}
 use Rattle.std.specs.List.{list_all, slice_split}
 use Rattle.mcode.specs.Word.{pick, and}
 use Rattle.console.specs.Choices.{up_to, name_of, value_of}
@@ -24,3 +24,7 @@ channel_by None list = None
 
 abbrev pub channel_of : List ℕ → Option ℕ
 channel_of text = channel_by (number_of (name_of text)) (value_of text)
+
+-- `--vary`
+abbrev pub vary_text : List ℕ
+vary_text = 45 ∷ 45 ∷ 118 ∷ 97 ∷ 114 ∷ 121 ∷ []

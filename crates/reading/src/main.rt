@@ -11,7 +11,7 @@ mod values;
 mod vary;
 
 use crate::read::Reader;
-use crate::values::{VARY, channel_of};
+use crate::values::{channel_of, vary};
 use console::arguments::{Asked, Ended, Files, gathered};
 use console::fault;
 use console::files::contents;
@@ -72,7 +72,7 @@ fn put_files(rt: &(impl Env + rt::Files), teller: Teller, asked: Asked) {
         store: &mut store[..words],
     };
     let several = asked.files == Files::Several;
-    each_given(rt, VARY.flag, |given| {
+    each_given(rt, vary().flag, |given| {
         if let Given::File(name) = given {
             reader.put_file(rt, name, several, &mut image);
         }
@@ -87,9 +87,9 @@ fn main(rt: HostRuntime) {
     };
     let teller = Teller {
         streams,
-        program: "reading",
+        program: b"reading",
     };
-    match gathered(&rt, teller, VARY, |text| channel_of(text).is_some()) {
+    match gathered(&rt, teller, vary(), |text| channel_of(text).is_some()) {
         Err(Ended::Help) => help::put_help(streams),
         Err(Ended::Bad) => {}
         Ok(asked) if asked.files == Files::No => help::put_usage(&streams.error),

@@ -2,7 +2,7 @@
 // did not take needs no trial: no value of it changes anything.
 use crate::read::{Read, Reader};
 use crate::shown::{Shown, same_reading};
-use crate::values::{VARY, channel_of, word};
+use crate::values::{channel_of, is_comma, vary, word};
 use console::given::{Given, each_given};
 use console::options::{value, with_input};
 use console::print::{has_bit, line};
@@ -37,7 +37,7 @@ impl Reader<'_> {
     // All values of a list. It answers whether one of them gives another reading.
     fn put_trials(&mut self, image: &[u8], channel: u8, list: &[u8], first: Shown) -> bool {
         let mut changes = false;
-        for text in list.split(|b| *b == b',') {
+        for text in list.split(|b| is_comma(b)) {
             if let Some(value) = word(text) {
                 changes |= self.put_trial(image, channel, value, first);
             }
@@ -62,7 +62,7 @@ impl Reader<'_> {
 
     // All that is to be tried, in the order of the arguments.
     pub fn put_variations(&mut self, rt: &impl Env, image: &[u8], first: Read) {
-        each_given(rt, VARY.flag, |given| {
+        each_given(rt, vary().flag, |given| {
             if let Given::Own(text) = given {
                 self.put_channel(image, text, first);
             }

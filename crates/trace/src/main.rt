@@ -18,7 +18,9 @@ use console::files::contents;
 use console::given::{Given, each_given};
 use console::number::decimal;
 use console::options::Options;
-use console::print::{Reading, Reason, Teller, put_caught, put_reading, requests_left, rests_on};
+use console::print::{
+    Reading, Reason, Teller, line, put_caught, put_reading, requests_left, rests_on,
+};
 use console::words;
 use engine::run::Ran;
 use image::read_image;
@@ -32,21 +34,22 @@ use std::rt::Env;
 
 const LIMIT: Own = Own {
     flag: b"--limit",
-    allowed: "--limit takes a number from 0 to 4294967295",
-    missing: "a number from 0 to 4294967295 must follow",
+    allowed: b"--limit takes a number from 0 to 4294967295",
+    missing: b"a number from 0 to 4294967295 must follow",
 };
 
-// The stop in words.
-fn put_stop(page: &mut Page, ran: &Ran) {
+// The stop in words. (Where it cannot be written, the lines of the reading say so.)
+fn put_stop(streams: Streams, ran: &Ran) {
     match ran.ending {
-        Ok(stop) => page.print(format_args!("stopped: {}\n", words::stop(stop.number()))),
+        Ok(stop) => {
+            let to = streams.output;
+            let text = words::stop(stop.number());
+            let _written = print!(to; "stopped: {text}\n");
+        }
         Err(refusal) => {
             let number = refusal.number();
-            let reason = Reason {
-                number,
-                place: None,
-            };
-            page.print(format_args!("{reason}\n"));
+            let place = None;
+            line(streams, Reason { number, place });
         }
     }
 }
@@ -120,8 +123,8 @@ fn put_steps(
     let quiet = traced(part, loaded, store, &mut outputs, show);
     let ran = requested(quiet, loaded, options, store, &mut outputs, show);
     let page = &mut *show.page;
-    put_stop(page, &ran);
     if page.flush() {
+        put_stop(page.streams, &ran);
         put_rest(page.streams, &ran, loaded, options, store, outputs);
     }
 }
@@ -157,13 +160,15 @@ impl Tracer<'_> {
 
     // A refusal: in the place of its trace, and on standard error.
     fn put_refusal(&mut self, name: &[u8], reason: Reason) {
-        self.page.print(format_args!("{reason}\n"));
-        self.page.flush();
+        if self.page.flush() {
+            line(self.teller.streams, reason);
+        }
         self.teller.refusal(name, reason.number, reason.place);
     }
 
     fn put_file(&mut self, rt: &impl rt::Files, name: &[u8]) {
         let mut buffer = [0u8; 65536];
+        let mut map = [0u32; 65535];
         let Some(image) = contents(rt, self.teller, name, &mut buffer) else {
             return;
         };
@@ -173,7 +178,6 @@ impl Tracer<'_> {
         }
         self.page.text(name);
         self.page.print(":\n");
-        let mut map = [0u32; 65535];
         if let Err(refusal) = self.put_image(image, &mut map) {
             let number = refusal.number();
             let place = found(image, &mut map, number);
@@ -212,7 +216,7 @@ fn main(rt: HostRuntime) {
     };
     let teller = Teller {
         streams,
-        program: "trace",
+        program: b"trace",
     };
     let mut limit = u32::MAX;
     let asked = gathered(&rt, teller, LIMIT, |text| match decimal(text) {

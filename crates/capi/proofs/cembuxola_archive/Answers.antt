@@ -10,10 +10,10 @@ pub returns-then-written-ne1 : goal.returns-then-written-ne1
 returns-then-written-ne1 c = rw (ne_eqb _ _ c.if-written-ne1.true) (refl, refl, refl, refl)
 
 pub overflow_cast-written : goal.overflow_cast-written
-overflow_cast-written c = omega (arith, answer-short _ _ _ _ _ c.in-Ok.ensures)
+overflow_cast-written c = omega (arith, answer-short _ _ _ _ _ c.in-Ok.ensures.answer)
 
 pub returns-in-Ok : goal.returns-in-Ok
-returns-in-Ok c = rw (eq-eqb _ _ c.if-written-ne1.false) (c.in-Ok.length, c.in-Ok.ensures, single _ _ c.if-written-ne1.false)
+returns-in-Ok c = rw (eq-eqb _ _ c.if-written-ne1.false) (c.in-Ok.length, c.in-Ok.ensures.answer, single _ _ c.if-written-ne1.false)
 
 pub returns-in-Err : goal.returns-in-Err
-returns-in-Err c = rw (eq-eqb _ _ c.if-written-ne1.false, c.number.ensures) (0, c.in-Err.ensures, single _ _ c.if-written-ne1.false)
+returns-in-Err c = rw (eq-eqb _ _ c.if-written-ne1.false, c.number.ensures) (0, c.in-Err.ensures.answer, single _ _ c.if-written-ne1.false)

@@ -9,8 +9,8 @@ use Rattle.archive.proofs.form.form_length.Goals as goal
 next-sum : (c : After-module_length-sum) → c.loop-k.sum + c.module_length-sum.result ≡ 1 + length (modules_form (tabulate (c.loop-k.k + 1) (content_of c.args.image.bytes.now c.args.image.program.now)))
 next-sum c =
     let i = c.args.image in
-    sum-next i.bytes.now i.program.now i.told c.loop-k.k c.loop-k-test.true c.module.result (placed-is i.bytes.now i.program.now c.loop-k.k c.module.result c.module.ensures)
-    _ _ c.loop-k.invariant c.module_length-sum.ensures
+    let e = placed-is i.bytes.now i.program.now c.loop-k.k c.module.result c.module.ensures in
+    omega (arith, c.loop-k.invariant, sum-next i.bytes.now i.program.now i.told c.loop-k.k c.loop-k-test.true _ e _ _ refl c.module_length-sum.ensures)
 
 pub loop-k-init : goal.loop-k-init
 unfolding tabulate

@@ -3,7 +3,7 @@ use Rattle.mcode.specs.Word.{tabulate}
 use Rattle.mcode.specs.Archive.{contents_of, modules_form}
 use Rattle.archive.specs.Form.{Put}
 use Rattle.archive.proofs.Puts.{put-none, put-length}
-use Rattle.archive.proofs.Modules.{placed-is, room_next, put_next, form-length-is, form-put}
+use Rattle.archive.proofs.Modules.{placed-is, room_next, put-content, form-length-is, form-put}
 use Rattle.archive.proofs.form.write_form.Goals as goal
 
 pub put-requires : goal.put-requires
@@ -19,7 +19,7 @@ write_module-requires c =
     let l = c.loop-k in
     let P : Put (i.program.now.count ∷ []) 0 c.args.output.now c.put.new.self.at c.put.new.self.output.now = rw (c.new-out.ensures.untouched.0, c.new-out.ensures.untouched.1) at c.put.ensures.1 in
     let r : c.put.new.self.at + length (modules_form (contents_of i.bytes.now i.program.now)) ≤ length c.put.new.self.output.now = omega (arith, c.requires, form-length-is i.bytes.now i.program.now, P.next-is, put-length _ _ _ _ _ P) in
-    room_next i.bytes.now i.program.now i.told l.k c.loop-k-test.true c.module.result (placed-is i.bytes.now i.program.now l.k c.module.result c.module.ensures) _ _ _ _ l.invariant.done r
+    room_next i.bytes.now i.program.now i.told l.k c.loop-k-test.true _ (placed-is i.bytes.now i.program.now l.k c.module.result c.module.ensures) _ _ _ _ l.invariant.done r
 
 pub loop-k-preserved : goal.loop-k-preserved
 loop-k-preserved c =
@@ -27,7 +27,7 @@ loop-k-preserved c =
     let l = c.loop-k in
     record {
       same = c.write_module.ensures.0 ∙ l.invariant.same;
-      done = put_next i.bytes.now i.program.now i.told l.k c.loop-k-test.true c.module.result (placed-is i.bytes.now i.program.now l.k c.module.result c.module.ensures)
+      done = put-content i.bytes.now i.program.now i.told l.k c.loop-k-test.true _ (placed-is i.bytes.now i.program.now l.k c.module.result c.module.ensures)
           _ _ _ _ l.invariant.done _ _ c.write_module.ensures.1;
     }
 

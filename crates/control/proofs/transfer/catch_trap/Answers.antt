@@ -4,7 +4,7 @@ use Rattle.control.proofs.Process.{not_so, sizes, caught-few, caught-fits, trapp
 use Rattle.control.proofs.transfer.catch_trap.Goals as goal
 
 pub returns-then-k-eq-MOST_MODULES : goal.returns-then-k-eq-MOST_MODULES
-returns-then-k-eq-MOST_MODULES c = ((λ lent bytes words h out. sym (trapped-not h c.args.r _ _ out _ c.requires.mapped (sym c.catcher-k.ensures ∙ c.if-k-eq-MOST_MODULES.true))), c.requires.anchored)
+returns-then-k-eq-MOST_MODULES c = ((λ lent bytes words h j e out. sym (trapped-not h c.args.r _ _ out j c.requires.mapped (rw e (sym c.catcher-k.ensures ∙ c.if-k-eq-MOST_MODULES.true)))), c.requires.anchored)
 
 pub bounds-store-q : goal.bounds-store-q
 bounds-store-q c = let z = sizes _ _ _ (caught-fits _ _ _ _ _ c.catcher-k.ensures c.if-k-eq-MOST_MODULES.false refl) in omega (arith, z.whole)
@@ -30,4 +30,4 @@ resume_noted-next-requires c = (caught-few _ _ _ _ _ c.catcher-k.ensures c.if-k-
 pub returns : goal.returns
 returns c =
     let n = not_so c.catcher-k.ensures c.if-k-eq-MOST_MODULES.false in
-    ((λ lent bytes words h out. rw (c.resume_noted-next.ensures.0, c.words_at-words.ensures, c.save_process.ensures, c.resume_noted-next.ensures.1, c.number.ensures, c.catcher-k.ensures) (sym (trapped-in h c.args.r _ _ out _ c.requires.anchored n))), anchored-resumed _ _ 1 _ (process_at c.args.store.now (get_or c.args.store.now 14 0)) c.args.r _ (caught-few _ _ _ _ _ c.catcher-k.ensures c.if-k-eq-MOST_MODULES.false c.requires.mapped) c.resume_noted-next.ensures.0)
+    ((λ lent bytes words h j e out. rw (c.resume_noted-next.ensures.0, c.words_at-words.ensures, c.save_process.ensures, c.resume_noted-next.ensures.1, c.catcher-k.ensures, ← e) (sym (trapped-in h c.args.r _ _ out j c.requires.anchored (rw (← e) at n)))), anchored-resumed _ _ 1 _ (process_at c.args.store.now (get_or c.args.store.now 14 0)) c.args.r _ (caught-few _ _ _ _ _ c.catcher-k.ensures c.if-k-eq-MOST_MODULES.false c.requires.mapped) c.resume_noted-next.ensures.0)

@@ -3,7 +3,7 @@ ghost use Rattle.std.specs.Prelude.{true, ◌≡◌, ◌+◌, ◌-◌, ◌/◌, 
 ghost use Rattle.std.specs.Fmt.{decimal, digit_glyph};
 
 use explain::shown::{NO_DEPTH, Note};
-use itoa::write_digits;
+use itoa::{Buffer, write_digits};
 use listing::bytes::byte_from;
 use listing::causes::words_of;
 use listing::cell::cell_of;
@@ -60,6 +60,13 @@ fn octal(byte: u8) -> [u8; 3]
     [b'0' + byte / 64, b'0' + byte / 8 % 8, b'0' + byte % 8]
 }
 
+// A text, and a number behind it: there may be thousands of procedures.
+pub fn put_numbered(page: &mut Page, text: &[u8], n: u16) {
+    let mut digits = Buffer::new();
+    page.text(text);
+    page.text(digits.format(n).as_bytes());
+}
+
 fn put_place(page: &mut Page, p: u16) {
     page.text(&column_of(p));
 }
@@ -94,7 +101,8 @@ impl Code<'_> {
     fn put_labels(self, page: &mut Page, p: u16) {
         let mut next = entered(self.image, self.m, p, 0);
         while let Some(i) = next {
-            page.print(format_args!("procedure {i}:\n"));
+            put_numbered(page, b"procedure ", i as u16);
+            page.text(b":\n");
             next = entered(self.image, self.m, p, i + 1);
         }
     }

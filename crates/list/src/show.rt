@@ -1,5 +1,5 @@
 // An image with its modules.
-use crate::code::{COLUMNS, Code};
+use crate::code::{COLUMNS, Code, put_numbered};
 use console::fault;
 use console::print::{Place, Reason, Teller, line};
 use depths::rules::proc_count;
@@ -24,10 +24,11 @@ fn put_heading(page: &mut Page, name: &[u8], bytes: usize, modules: Option<usize
 fn put_procedures(page: &mut Page, image: &[u8], m: Module) {
     for i in 0..proc_count(m) {
         let procedure = procedure_of(image, m, i as u16);
-        page.print(format_args!(
-            "  procedure {i}: entry {}, parameters {}, results {}\n",
-            procedure.entry, procedure.params, procedure.results
-        ));
+        put_numbered(page, b"  procedure ", i as u16);
+        put_numbered(page, b": entry ", procedure.entry);
+        put_numbered(page, b", parameters ", procedure.params as u16);
+        put_numbered(page, b", results ", procedure.results as u16);
+        page.text(b"\n");
     }
 }
 

@@ -180,7 +180,7 @@ pub struct Reason {
 impl fmt::Display for Reason {
     fn fmt<W: fmt::Write>(&self, f: &mut fmt::Formatter<W>) -> fmt::Result {
         let number = self.number;
-        write!(f, "refused {number}: {}", words::refusal(number))?;
+        write!(f, "refused {number}: {}", words::refusal_words(number))?;
         match self.place {
             Some(place) => write!(f, "{place}"),
             None => Ok(()),

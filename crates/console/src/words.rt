@@ -3,7 +3,7 @@ ghost use Rattle.std.specs.Prelude.{◌≡◌, Some};
 ghost use Rattle.console.specs.Words.{refusal_words, stop_words};
 
 use mcode::MOST_MODULES;
-use std::fmt;
+use std::{fmt, str};
 
 // The words of a refusal by its number. Those of 2 have the number of modules that an image has at most.
 #[derive(Clone, Copy)]
@@ -35,11 +35,50 @@ impl fmt::Display for RefusalWords {
     }
 }
 
-// A refusal, 1 to 14.
-pub fn refusal(number: u16) -> RefusalWords
+// A refusal, 1 to 14, as a value to print.
+pub fn refusal_words(number: u16) -> RefusalWords
     ensures { result.number ≡ number }
 {
     RefusalWords { number }
+}
+
+// The two digits of the number of modules that an image has at most, and the words of refusal 2.
+const TENS: u8 = b'0' + (MOST_MODULES / 10) as u8;
+
+const UNITS: u8 = b'0' + (MOST_MODULES % 10) as u8;
+
+const MODULE_COUNT: &[u8] = &[
+    b'm', b'o', b'd', b'u', b'l', b'e', b' ', b'c', b'o', b'u', b'n', b't', b' ', b'0', b' ', b'o',
+    b'r', b' ', b'o', b'v', b'e', b'r', b' ', TENS, UNITS,
+];
+
+fn module_count() -> &'static str
+    ensures { result.now ≡ refusal_words 2 }
+{
+    str::from_utf8(MODULE_COUNT).unwrap_or("")
+}
+
+// A refusal, 1 to 14, as a text.
+pub fn refusal(number: u16) -> &'static str
+    ensures { result.now ≡ refusal_words number }
+{
+    match number {
+        1 => "image of 0 or over 65,535 bytes",
+        2 => module_count(),
+        3 => "image ends inside a part",
+        4 => "bytes after the last module",
+        5 => "bit 3 to 7 of a bit map",
+        6 => "a field out of range",
+        7 => "map shorter than image",
+        8 => "no depths fit the code, which is whole",
+        9 => "W below Z + 36 or over 65,535",
+        10 => "inputs or outputs not 16 words",
+        11 => "not a machine",
+        12 => "map does not fit",
+        13 => "the code is not whole",
+        14 => "output shorter than the form",
+        _ => "no such refusal",
+    }
 }
 
 // A stop, 30 to 40.
@@ -59,5 +98,24 @@ pub fn stop(number: u16) -> &'static str
         39 => "channel",
         40 => "program",
         _ => "no such stop",
+    }
+}
+
+#[cfg(test)]
+mod tests {
+    use super::*;
+
+    #[test]
+    fn words_of_refusals(rt: HostRuntime) {
+        for (number, words) in [
+            (0, "no such refusal"),
+            (1, "image of 0 or over 65,535 bytes"),
+            (2, "module count 0 or over 21"),
+            (8, "no depths fit the code, which is whole"),
+            (14, "output shorter than the form"),
+            (15, "no such refusal"),
+        ] {
+            assert_eq!(rt; refusal(number), words, "of {number}");
+        }
     }
 }

@@ -60,15 +60,31 @@ module _ (letters : List ℕ) (i : ℕ) (o p q : Option (List ℕ)) (l : i < len
           rw (take_more letters i 0 l) (r (omega arith) ∙ ap Some (append_assoc w (take i letters) (get_or letters i 0 ∷ [])))
 
 -- the parts of a text that is written in several calls
-parts_more : (parts : List (List ℕ)) (a b : Option (List ℕ)) → FoldsTo Takes a parts b → Leaves (text_more (concat parts)) a b
+parts_more : (parts : List (List ℕ)) (a b : Option (List ℕ)) → FoldsTo (λ x letters y. Leaves (text_more letters) x y) a parts b → Leaves (text_more (concat parts)) a b
 parts_more [] a b f = rw (sym f) (Leaves-none a)
-parts_more (x ∷ xs) a b (m, f, g) = Leaves-append x (concat xs) a m b f.leaves (parts_more xs m b g)
+parts_more (x ∷ xs) a b (m, f, g) = Leaves-append x (concat xs) a m b f (parts_more xs m b g)
 
-pub Leaves-written : (o : Option (List ℕ)) (a b : Option (List ℕ)) → WritesText Takes a o b → IfSome o (λ letters. Leaves (text_more letters) a b)
+pub Leaves-written : (o : Option (List ℕ)) (a b : Option (List ℕ)) → WritesText (λ x letters y. Leaves (text_more letters) x y) a o b → IfSome o (λ letters. Leaves (text_more letters) a b)
 Leaves-written None a b w = tt
 Leaves-written (Some t) a b w = rw (sym w.whole) (parts_more w.parts a b w.calls)
 
-pub Leaves-printed : (r : Result (Unit {0}) Error) (o : Option (List ℕ)) (a b d : Option (List ℕ)) → OnOk r (WritesText Takes a o b) → OnOk r (d ≡ b) → OnErr r (d ≡ None) → IfSome o (λ letters. Leaves (text_more letters) a d)
+pub Leaves-printed : (r : Result (Unit {0}) Error) (o : Option (List ℕ)) (a b d : Option (List ℕ)) → OnOk r (WritesText (λ x letters y. Leaves (text_more letters) x y) a o b) → OnOk r (d ≡ b) → OnErr r (d ≡ None) → IfSome o (λ letters. Leaves (text_more letters) a d)
 Leaves-printed (Ok u) o a b d w k n = rw k (Leaves-written o a b w)
 Leaves-printed (Err e) None a b d w k n = tt
 Leaves-printed (Err e) (Some t) a b d w k n = rw n tt
+
+-- of each call `Takes` tells more than that
+calls-leave : (parts : List (List ℕ)) (a b : Option (List ℕ)) → FoldsTo Takes a parts b → FoldsTo (λ x letters y. Leaves (text_more letters) x y) a parts b
+calls-leave [] a b f = f
+calls-leave (x ∷ xs) a b (m, f, g) = (m, f.leaves, calls-leave xs m b g)
+
+pub Takes-leaves : (o : Option (List ℕ)) (a b : Option (List ℕ)) → WritesText Takes a o b → WritesText (λ x letters y. Leaves (text_more letters) x y) a o b
+Takes-leaves None a b w = tt
+Takes-leaves (Some t) a b w = record { parts = w.parts; calls = calls-leave w.parts a b w.calls; whole = w.whole }
+
+pub Takes-written : (o : Option (List ℕ)) (a b : Option (List ℕ)) → WritesText Takes a o b → IfSome o (λ letters. Leaves (text_more letters) a b)
+Takes-written o a b w = Leaves-written o a b (Takes-leaves o a b w)
+
+pub Takes-printed : (r : Result (Unit {0}) Error) (o : Option (List ℕ)) (a b d : Option (List ℕ)) → OnOk r (WritesText Takes a o b) → OnOk r (d ≡ b) → OnErr r (d ≡ None) → IfSome o (λ letters. Leaves (text_more letters) a d)
+Takes-printed (Ok u) o a b d w k n = Leaves-printed (Ok u) o a b d (Takes-leaves o a b w) k n
+Takes-printed (Err e) o a b d w k n = Leaves-printed (Err e) o a b d tt k n

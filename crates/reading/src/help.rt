@@ -1,5 +1,5 @@
 // What --help and -h print.
-use console::words::{refusal, stop};
+use console::words::{refusal_words, stop};
 use listing::streams::Streams;
 
 const USAGE: &str = "\
@@ -63,7 +63,7 @@ pub fn put_help(streams: Streams) {
     }
     let _written = print!(out; "\nRefusals:\n");
     for number in 1..14 {
-        let words = refusal(number);
+        let words = refusal_words(number);
         let _written = print!(out; "  {number} {words}\n");
     }
 }
